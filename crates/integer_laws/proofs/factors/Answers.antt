@@ -1,0 +1,8 @@
+use Rattle.integer_laws.proofs.IntegerLaws.{neg-*ℤ, cancel_left}
+use Rattle.integer_laws.proofs.factors.Goals as goal
+
+pub returns-clause-negated : goal.returns-clause-negated
+returns-clause-negated c = neg-*ℤ
+
+pub returns-clause-cancel : goal.returns-clause-cancel
+returns-clause-cancel c = cancel_left
