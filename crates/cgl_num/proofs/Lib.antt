@@ -1,0 +1,12 @@
+pub mod ArithmeticLaws
+pub mod DecimalLaws
+pub mod DigitLaws
+pub mod FractionLaws
+pub mod GcdLaws
+pub mod NumberLaws
+pub mod NumberLawsRange
+pub mod NumberLawsValid
+pub mod NumberLawsValue
+pub mod OrderLaws
+pub mod OverflowLaws
+pub mod TotalOrderLaws

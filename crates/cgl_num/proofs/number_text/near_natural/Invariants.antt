@@ -1,0 +1,10 @@
+use Rattle.std.proofs.Common.{◌≡◌, take, true}
+use Rattle.std.specs.List.{list_all}
+use Rattle.cgl_num.specs.NumberText.{is_digit, natural, near}
+use Rattle.cgl_num.proofs.number_text.near_natural.Given as goal
+
+abbrev pub invariant-digits : goal.invariant-digits
+invariant-digits l = record {
+  all : list_all is_digit (take l.byte-index l.text) ≡ true;
+  value : l.number ≡ near (natural (take l.byte-index l.text));
+}

@@ -1,0 +1,6 @@
+pub mod Gcd
+pub mod Fraction
+pub mod FractionArithmetic
+pub mod FractionOrder
+pub mod Decimal
+pub mod NumberText

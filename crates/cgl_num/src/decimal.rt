@@ -1,0 +1,187 @@
+ghost use Rattle.std.specs.Prelude.{◌≡◌, ℕ, ℤ, ◌<◌, ◌≤◌, ◌*◌, ◌%◌, ◌^◌, ◌≢◌, unsigned_abs, pos, negsuc, neg_ℤ, cond, ◌≤ℤ◌, ◌+◌, length, take, ◌++◌, decimal, replicate};
+ghost use Rattle.cgl_num.specs.Decimal.{IsDecimal, decimal_of, decimal_text, magnitude_text, minus, padded};
+
+use itoa::Buffer;
+use std::marker::Model;
+
+const MANTISSA_END: u128 = 1_000_000_000_000_000_000_000_000;
+
+const SIZE_END: u128 = 1_000_000_000_000_000_000_000_000_000_000_000_000;
+
+/// The number `m * 10^e`, where m is not divisible by 10, or both are 0.
+/// The magnitude of m is below 10^24, that of the number is below 10^36, and e is at least -30.
+#[derive(Clone, Copy, Debug, PartialEq, Eq)]
+pub struct Dec {
+    m: i128,
+    e: i16,
+}
+
+impl Model for Dec {
+    ghost use Rattle.cgl_num.specs.Decimal.{Decimal, IsDecimal};
+
+    ghost Value = { Decimal };
+
+    ghost view = { λ d. record { m = d.m; e = d.e } };
+
+    ghost invariant = { λ d. IsDecimal (record { m = d.m; e = d.e }) };
+
+    ghost inverse = { λ d. record { m = d.m; e = d.e } };
+}
+
+/// The number above 0 without the zeros at its end, and how many these are.
+fn without_zeros(number: u128) -> (u128, u8)
+    requires positive { 0 < number }
+    requires size { number < 10 ^ 36 }
+    ensures value { result.0 * 10 ^ result.1 ≡ number }
+    ensures normal { result.0 % 10 ≢ 0 }
+{
+    let mut rest = number;
+    let mut zeros = 0;
+    while rest % 10 == 0 {
+        rest /= 10;
+        zeros += 1;
+    }
+    (rest, zeros)
+}
+
+/// A magnitude with a sign.
+pub(crate) fn signed(negative: bool, magnitude: u128) -> i128
+    requires { magnitude < 2 ^ 126 }
+    ensures { result ≡ cond negative (neg_ℤ (pos magnitude)) (pos magnitude) }
+{
+    let number = magnitude as i128;
+    if negative { -number } else { number }
+}
+
+/// A number above 0 with this sign.
+pub(crate) fn with_sign(negative: bool, m: u128, e: i16) -> Dec
+    requires normal { m % 10 ≢ 0 }
+    requires digits { m < 10 ^ 24 }
+    requires scale { negsuc 29 ≤ℤ e }
+    requires size { (k : ℕ) → e ≡ pos k → m * 10 ^ k < 10 ^ 36 }
+    ensures { result ≡ record { m = cond negative (neg_ℤ (pos m)) (pos m); e = e } }
+{
+    let m = signed(negative, m);
+    Dec { m, e }
+}
+
+/// Writes a piece behind the first `at` bytes, and gives the length of all.
+fn put(out: &mut [u8; 48], at: usize, piece: &[u8]) -> usize
+    requires { at + length piece.now ≤ 48 }
+    ensures end { result ≡ at + length piece.now }
+    ensures text { take result out.new ≡ take at out.old ++ piece.now }
+{
+    let end = at + piece.len();
+    out[at..end].copy_from_slice(piece);
+    end
+}
+
+fn put_sign(out: &mut [u8; 48], negative: bool) -> usize
+    ensures within { result ≤ 1 }
+    ensures text { take result out.new ≡ minus negative }
+{
+    if negative { put(out, 0, b"-") } else { 0 }
+}
+
+fn put_number(out: &mut [u8; 48], at: usize, number: u128) -> usize
+    requires { at + length (decimal number) ≤ 48 }
+    ensures end { result ≡ at + length (decimal number) }
+    ensures text { take result out.new ≡ take at out.old ++ decimal number }
+{
+    put(out, at, Buffer::new().format(number).as_bytes())
+}
+
+fn put_zeros(out: &mut [u8; 48], at: usize, k: usize) -> usize
+    requires within { k ≤ 30 }
+    requires room { at + k ≤ 48 }
+    ensures end { result ≡ at + k }
+    ensures text { take result out.new ≡ take at out.old ++ replicate k 48 }
+{
+    let zeros = [b'0'; 30];
+    let piece = &zeros[..k];
+    put(out, at, piece)
+}
+
+/// Writes zeros and then the number, k digits in all.
+fn put_padded(out: &mut [u8; 48], at: usize, k: usize, number: u128) -> usize
+    requires size { number < 10 ^ k }
+    requires places { (0 < k) × (k ≤ 30) }
+    requires room { at + k ≤ 48 }
+    ensures end { result ≡ at + k }
+    ensures text { take result out.new ≡ take at out.old ++ padded k number }
+{
+    let mut buffer = Buffer::new();
+    let text = buffer.format(number).as_bytes();
+    let end = put_zeros(out, at, k - text.len());
+    put(out, end, text)
+}
+
+/// Writes m with its last k digits behind a point.
+fn put_decimals(out: &mut [u8; 48], at: usize, m: u128, k: usize) -> usize
+    requires size { m < 10 ^ 24 }
+    requires places { (0 < k) × (k ≤ 30) }
+    requires room { at ≤ 1 }
+    ensures within { result ≤ 48 }
+    ensures text { take result out.new ≡ take at out.old ++ magnitude_text m (neg_ℤ (pos k)) }
+{
+    let power = 10u128.pow(k as u32);
+    let end = put_number(out, at, m / power);
+    let end = put(out, end, b".");
+    put_padded(out, end, k, m % power)
+}
+
+impl Dec {
+    /// m of `m * 10^e`.
+    pub fn m(self) -> i128
+        ensures value { result ≡ self.m }
+        ensures valid { IsDecimal self }
+    {
+        self.m
+    }
+
+    /// e of `m * 10^e`.
+    pub fn e(self) -> i16
+        ensures value { result ≡ self.e }
+        ensures valid { IsDecimal self }
+    {
+        self.e
+    }
+
+    /// The whole number n; none where its m or its magnitude is too large.
+    pub fn whole(n: i128) -> Option<Dec>
+        ensures { result ≡ decimal_of n }
+    {
+        if n == 0 {
+            return Some(Dec { m: 0, e: 0 });
+        }
+        let magnitude = n.unsigned_abs();
+        if magnitude >= SIZE_END {
+            return None;
+        }
+        let (m, zeros) = without_zeros(magnitude);
+        if m >= MANTISSA_END {
+            return None;
+        }
+        Some(with_sign(n < 0, m, zeros as i16))
+    }
+
+    /// Writes the number with all its digits, with a point only where e is below 0, and gives the length.
+    pub fn digits(self, out: &mut [u8; 48]) -> usize
+        ensures within { result ≤ 48 }
+        ensures text { take result out.new ≡ decimal_text self }
+    {
+        let m = self.m.unsigned_abs();
+        let at = put_sign(out, self.m < 0);
+        if self.e < 0 {
+            put_decimals(out, at, m, self.e.unsigned_abs() as usize)
+        } else {
+            put_number(out, at, m * 10u128.pow(self.e as u32))
+        }
+    }
+}
+
+impl Default for Dec {
+    fn default() -> Dec {
+        Dec { m: 0, e: 0 }
+    }
+}

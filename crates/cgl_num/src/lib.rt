@@ -1,0 +1,25 @@
+//! Exact fractions and decimals within 128 bits.
+#![tactic(auto)]
+
+mod arithmetic;
+mod decimal;
+mod divisor;
+mod fraction;
+mod laws;
+mod laws_decimal;
+mod number_text;
+mod order;
+#[cfg(test)]
+mod tests_decimal;
+
+pub use arithmetic::{Op, Overflow};
+pub use decimal::Dec;
+pub use divisor::gcd;
+pub use fraction::Frac;
+pub use laws::{divisors, factors, known_fractions, lowest_terms, rational_order};
+pub use laws_decimal::{decimal_laws, number_laws};
+pub use number_text::{Limit, NumberFault, is_number_text};
+
+/// Want of memory.
+#[derive(Clone, Copy, Debug, PartialEq, Eq)]
+pub struct Memory;
