@@ -1,0 +1,25 @@
+-- Lines and fields of a text.
+use Rattle.std.specs.Prelude.{ℕ, ◌==◌, Bool, true, ◌||◌, if◌then◌else◌, List, [], ◌∷◌, bytes_eq}
+use Rattle.std.specs.List.{list_any, onto_first}
+use Rattle.cgl_num.specs.NumberText.{Word}
+
+-- each LF ends a line, and the last line may lack it
+abbrev pub lines_of : List ℕ → List (List ℕ)
+lines_of [] = []
+lines_of (b ∷ bytes) = if b == 10 then [] ∷ lines_of bytes else onto_first b (lines_of bytes)
+
+-- space, tab and CR
+abbrev pub is_blank : ℕ → Bool
+is_blank b = b == 32 || b == 9 || b == 13
+
+abbrev pub begins_blank : List ℕ → Bool
+begins_blank [] = true
+begins_blank (b ∷ bytes) = is_blank b
+
+-- the longest runs of bytes that aren't blank
+abbrev pub fields_of : List ℕ → List Word
+fields_of [] = []
+fields_of (b ∷ bytes) = if is_blank b then fields_of bytes else if begins_blank bytes then (b ∷ []) ∷ fields_of bytes else onto_first b (fields_of bytes)
+
+abbrev pub is_one_of : List Word → Word → Bool
+is_one_of words word = list_any (bytes_eq word) words
