@@ -1,0 +1,5 @@
+pub mod FilesLaws
+pub mod FilesRules
+pub mod ShelfLaws
+pub mod ShelfRules
+pub mod SinkLaws

@@ -1,0 +1,18 @@
+use Rattle.std.proofs.Common.{ap, ◌∙◌, Some}
+use Rattle.std.proofs.lemmas.Map.Text.{btree_map_updates_text}
+use Rattle.std.specs.FinMap.{insert}
+use Rattle.std.specs.String.{string_bytes}
+use Rattle.cgl_outside.specs.Files.{files_of}
+use Rattle.cgl_outside.proofs.FilesLaws.{files_written}
+use Rattle.cgl_outside.proofs.FilesRules.{same_files}
+use Rattle.cgl_outside.proofs.store.put.Goals as goal
+
+pub returns-in-Ok-clause-ok : goal.returns-in-Ok-clause-ok
+returns-in-Ok-clause-ok c =
+    let m = c.args.files.now in
+    let key = string_bytes c.in_ok-key.key in
+    files_written m c.insert.new.self key c.args.bytes (λ q. btree_map_updates_text key m c.insert.new.self (Some c.args.bytes) c.in-Ok.ensures.updates q)
+    ∙ ap (λ name. insert (files_of m) name c.args.bytes.items) c.in_ok-key.ensures.ok
+
+pub returns-clause-err : goal.returns-clause-err
+returns-clause-err c = same_files c.args.files.now c.insert.new.self c.in-Err.ensures.err

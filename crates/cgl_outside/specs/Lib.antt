@@ -1,0 +1,10 @@
+pub mod Edge
+pub mod Fails
+pub mod Files
+pub mod Laws
+pub mod MemShelf
+pub mod MemSink
+pub mod Shelf
+pub mod Sink
+pub mod SureShelf
+pub mod SureSink

@@ -1,0 +1,30 @@
+//! Named files and outputs: the two traits that the programs stand on, both in memory with faults
+//! where a test wants them, and both over the system.
+#![tactic(auto)]
+
+mod edge;
+mod errors;
+mod fail;
+mod laws;
+mod mem_shelf;
+mod mem_sink;
+mod shelf;
+mod sink;
+mod store;
+mod sure_shelf;
+mod sure_sink;
+#[cfg(test)]
+mod tests;
+mod whole;
+
+pub use edge::{DirShelf, StdSink};
+pub use errors::{FetchError, ReadError, WholeError, WriteError};
+pub use fail::{Call, Fail};
+pub use laws::{shelf_laws, sink_laws};
+pub use mem_shelf::MemShelf;
+pub use mem_sink::MemSink;
+pub use shelf::{Failed, Shelf};
+pub use sink::Sink;
+pub use sure_shelf::SureShelf;
+pub use sure_sink::SureSink;
+pub use whole::{read_whole, write_whole};

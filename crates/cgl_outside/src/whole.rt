@@ -1,0 +1,111 @@
+//! Whole files over any shelf, in pieces.
+ghost use Rattle.std.specs.Prelude.{◌≡◌, ◌⊎◌, ◌↔◌, ℕ, List, ◌<◌, ◌≤◌, IfOk, IfErr, OnOk, OnErr, IsSome, IsTrue, IsErrOf, Some, false, length, take, vec_len};
+ghost use Rattle.cgl_outside.specs.Shelf.{file_of, with_file, Lacks, Rose};
+
+use crate::{Failed, Shelf, WholeError};
+use std::alloc::Global;
+
+/// The bytes of one read or append at most.
+const PIECE: usize = 65536;
+
+/// A buffer for one piece.
+fn piece_buffer(alloc: Global) -> Result<Vec<u8>, WholeError>
+    ensures buf { IfOk result (λ buf. 0 < vec_len buf) }
+    ensures err { IfErr result (λ e. e ≡ WholeError.Memory) }
+{
+    vec![in alloc; 0u8; PIECE].map_err(|_| WholeError::Memory)
+}
+
+/// Reads the next piece of a file behind those that were read. Says whether there was one.
+fn read_more<S: Shelf>(
+    shelf: &mut S,
+    name: &str,
+    buf: &mut [u8],
+    bytes: &mut Vec<u8>,
+) -> Result<bool, WholeError>
+    requires { 0 < length buf.old }
+    ensures held { S.held shelf.new ≡ S.held shelf.old }
+    ensures writes { S.failed_writes shelf.new ≡ S.failed_writes shelf.old }
+    ensures more { IfOk result (λ more. IsTrue more ↔ (length bytes.old.items < length bytes.new.items)) }
+    ensures front { OnOk result ((file : List ℕ) → file_of (S.held shelf.old) name.now ≡ Some file
+        → bytes.old.items ≡ take (length bytes.old.items) file → bytes.new.items ≡ take (length bytes.new.items) file) }
+    ensures whole { IfOk result (λ more. (file : List ℕ) → file_of (S.held shelf.old) name.now ≡ Some file
+        → more ≡ false → length file ≤ length bytes.new.items) }
+    ensures found { OnOk result (IsSome (S.held shelf.old) → IsSome (file_of (S.held shelf.old) name.now)) }
+    ensures reads { IsErrOf result WholeError.ReadFault ⊎ (S.failed_reads shelf.new ≡ S.failed_reads shelf.old) }
+    ensures later { S.failed_reads shelf.old ≤ S.failed_reads shelf.new }
+    ensures excused { Lacks (S.held shelf.old) name.now → S.failed_reads shelf.new ≡ S.failed_reads shelf.old }
+    ensures read_fault { IsErrOf result WholeError.ReadFault
+        → Rose (S.failed_reads shelf.old) (S.failed_reads shelf.new) ⊎ Lacks (S.held shelf.old) name.now }
+    ensures not_large { IsErrOf result WholeError.Large → ⊥ }
+{
+    let Ok(count) = shelf.read_at(name, bytes.len() as u64, buf) else {
+        return Err(WholeError::ReadFault);
+    };
+    let Ok(()) = bytes.extend_from_slice(&buf[..count]) else {
+        return Err(WholeError::Memory);
+    };
+    Ok(count > 0)
+}
+
+/// All bytes of a file that has at most so many, read from its start upwards.
+///
+/// # Errors
+///
+/// `ReadFault` where a read failed, `Large` where the file has more than `most` bytes.
+pub fn read_whole<S: Shelf>(
+    alloc: Global,
+    shelf: &mut S,
+    name: &str,
+    most: usize,
+) -> Result<Vec<u8>, WholeError>
+    ensures bytes { IfOk result (λ v. IsSome (S.held shelf.old) → file_of (S.held shelf.old) name.now ≡ Some v.items) }
+    ensures small { IfOk result (λ v. length v.items ≤ most) }
+    ensures large { IsErrOf result WholeError.Large → (file : List ℕ) → file_of (S.held shelf.old) name.now ≡ Some file → most < length file }
+    ensures large_found { IsErrOf result WholeError.Large → IsSome (S.held shelf.old) → IsSome (file_of (S.held shelf.old) name.now) }
+    ensures read_fault { IsErrOf result WholeError.ReadFault
+        → Rose (S.failed_reads shelf.old) (S.failed_reads shelf.new) ⊎ Lacks (S.held shelf.old) name.now }
+    ensures reads { IsErrOf result WholeError.ReadFault ⊎ (S.failed_reads shelf.new ≡ S.failed_reads shelf.old) }
+    ensures later { S.failed_reads shelf.old ≤ S.failed_reads shelf.new }
+    ensures excused { Lacks (S.held shelf.old) name.now → S.failed_reads shelf.new ≡ S.failed_reads shelf.old }
+    ensures held { S.held shelf.new ≡ S.held shelf.old }
+    ensures writes { S.failed_writes shelf.new ≡ S.failed_writes shelf.old }
+{
+    let mut buf = piece_buffer(alloc)?;
+    let mut bytes = Vec::new(alloc);
+    'pieces: while bytes.len() <= most {
+        if !read_more(shelf, name, &mut buf, &mut bytes)? {
+            return Ok(bytes);
+        }
+    }
+    Err(WholeError::Large)
+}
+
+/// Writes a file whole, in pieces behind one another. Where a call fails, the name is as it was or
+/// has a front of the bytes.
+///
+/// # Errors
+///
+/// `Failed` where a create or an append failed.
+pub fn write_whole<S: Shelf>(shelf: &mut S, name: &str, bytes: &[u8]) -> Result<(), Failed>
+    ensures ok { OnOk result (S.held shelf.new ≡ with_file (S.held shelf.old) name.now bytes.now) }
+    ensures stands { OnErr result ((S.held shelf.new ≡ S.held shelf.old)
+        ⊎ ((kept : ℕ) × (S.held shelf.new ≡ with_file (S.held shelf.old) name.now (take kept bytes.now)))) }
+    ensures fault { OnErr result (Rose (S.failed_writes shelf.old) (S.failed_writes shelf.new)) }
+    ensures ok_writes { OnOk result (S.failed_writes shelf.new ≡ S.failed_writes shelf.old) }
+    ensures later { S.failed_writes shelf.old ≤ S.failed_writes shelf.new }
+    ensures reads { S.failed_reads shelf.new ≡ S.failed_reads shelf.old }
+{
+    let Ok(()) = shelf.create(name) else {
+        return Err(Failed);
+    };
+    let mut done = 0;
+    'pieces: while done < bytes.len() {
+        let end = (done + PIECE).min(bytes.len());
+        let Ok(()) = shelf.append(name, &bytes[done..end]) else {
+            return Err(Failed);
+        };
+        done = end;
+    }
+    Ok(())
+}
