@@ -1,0 +1,11 @@
+pub mod Rising
+pub mod Point
+pub mod Inequality
+pub mod Ends
+pub mod RowEntries
+pub mod HasDecimals
+pub mod Feasible
+pub mod FormList
+pub mod PlaceOrder
+pub mod IntegerForm
+pub mod Valid

@@ -1,0 +1,204 @@
+ghost use Rattle.std.specs.Prelude.{◌≡◌, ℕ, ◌<◌, ◌≤◌, ◌^◌, [], None, Some, length, slice_index_or, IfOk, MatchOption};
+ghost use Rattle.cgl_model.specs.FormList.{form_at, is_wide_at, same_end, same_place, side_number};
+ghost use Rattle.cgl_model.specs.HasDecimals.{HasDecimals};
+ghost use Rattle.cgl_model.specs.IntegerForm.{forms_of, row_shapes, row_sides_from};
+ghost use Rattle.cgl_model.specs.PlaceOrder.{end_rank, rank, RanksRise};
+ghost use Rattle.cgl_model.specs.RowEntries.{row_entries};
+
+use crate::row_lists::entries_of_rows;
+use crate::row_shape::shape_of_row;
+use crate::side_list::{add_column_sides, add_row_sides};
+use crate::{End, Entries, Place, Seq, Side, Terms};
+use cgl_num::Memory;
+use std::alloc::Global;
+
+/// A row that is not N in whole numbers: its coefficients, its right side and its ends.
+#[derive(Drop)]
+pub struct RowForm {
+    pub coeffs: Terms,
+    pub rhs: i128,
+    pub lo: Option<i128>,
+    pub up: Option<i128>,
+}
+
+/// The integer form of a row: none for an N row, or where a number of it is too large.
+#[derive(Drop)]
+pub enum RowShape {
+    Free,
+    Wide,
+    Form(RowForm),
+}
+
+/// Each end of a model that is finite, as an inequality in whole numbers.
+#[derive(Drop)]
+pub struct Forms {
+    rows: Seq<RowShape>,
+    sides: Seq<Side>,
+}
+
+impl std::marker::Model for Forms {
+    ghost use Rattle.cgl_model.specs.FormList.{FormList};
+    ghost use Rattle.cgl_model.specs.PlaceOrder.{IsSideList};
+
+    ghost Value = { FormList };
+
+    ghost view = { λ it. record { rows = it.rows; sides = it.sides } };
+
+    ghost invariant = { λ it. IsSideList it.sides };
+}
+
+/// The forms of all rows, and their sides.
+fn forms_of_rows(alloc: Global, m: &crate::Model, lists: &[Entries]) -> Result<Forms, Memory>
+    requires size { length m.now.rows ≤ 2 ^ 20 }
+    requires count { length lists.now ≡ length m.now.rows }
+    requires lists { (r : ℕ) → r < length lists.now → slice_index_or lists.now r [] ≡ row_entries m.now r }
+    ensures rows { IfOk result (λ f. f.rows ≡ row_shapes m.now) }
+    ensures sides { IfOk result (λ f. f.sides ≡ row_sides_from 0 (row_shapes m.now)) }
+{
+    let mut shapes = Seq::new(alloc);
+    let mut sides = Seq::new(alloc);
+    let rows = m.rows.as_slice();
+    for (r, row) in rows.iter().enumerate() {
+        let shape = shape_of_row(alloc, lists[r].as_slice(), row)?;
+        add_row_sides(alloc, &mut sides, r as u32, &shape)?;
+        shapes.push(shape)?;
+    }
+    Ok(Forms {
+        rows: shapes,
+        sides,
+    })
+}
+
+impl Forms {
+    /// Prepares the integer forms of all rows and all sides of a model.
+    pub fn build(alloc: Global, m: &crate::Model) -> Result<Forms, Memory>
+        requires rows { length m.now.rows ≤ 2 ^ 20 }
+        requires columns { length m.now.cols ≤ 2 ^ 20 }
+        ensures value { IfOk result (λ forms. forms ≡ forms_of m.now) }
+        ensures decimals { HasDecimals m.now }
+    {
+        m.has_decimals();
+        let lists = entries_of_rows(alloc, m)?;
+        let Forms { rows, mut sides } = forms_of_rows(alloc, m, lists.as_slice())?;
+        add_column_sides(alloc, &mut sides, m.cols.as_slice())?;
+        Ok(Forms { rows, sides })
+    }
+
+    pub fn sides(&self) -> &[Side]
+        ensures { result.now ≡ self.now.sides }
+    {
+        self.sides.as_slice()
+    }
+
+    /// The number of the side at this place; none where that end is infinite, the row is N or wide, or there is no such row or column.
+    pub fn find(&self, place: Place) -> Option<u32>
+        ensures { result ≡ side_number place self.now.sides }
+    {
+        number_in(self.sides.as_slice(), place)
+    }
+
+    /// The integer form of a row; none where it is N or wide, or where there is no such row.
+    pub fn row_form(&self, row: u32) -> Option<&RowForm>
+        ensures { MatchOption result (form_at self.now.rows row ≡ None) (λ form. form_at self.now.rows row ≡ Some form.now) }
+    {
+        match self.rows.as_slice().get(row as usize)? {
+            RowShape::Form(form) => Some(form),
+            RowShape::Free => None,
+            RowShape::Wide => None,
+        }
+    }
+
+    /// Whether a number of the row, or an end of it, is too large for an integer form.
+    pub fn wide(&self, row: u32) -> bool
+        ensures { result ≡ is_wide_at self.now.rows row }
+    {
+        match self.rows.as_slice().get(row as usize) {
+            Some(RowShape::Wide) => true,
+            Some(RowShape::Free) => false,
+            Some(RowShape::Form(_)) => false,
+            None => false,
+        }
+    }
+}
+
+fn is_end(a: End, b: End) -> bool
+    ensures { result ≡ same_end a b }
+{
+    match a {
+        End::Lower => matches!(b, End::Lower),
+        End::Upper => matches!(b, End::Upper),
+    }
+}
+
+fn is_place(a: Place, b: Place) -> bool
+    ensures { result ≡ same_place a b }
+{
+    match a {
+        Place::Row(row, end) => match b {
+            Place::Row(other, other_end) => row == other && is_end(end, other_end),
+            Place::Bound(_, _) => false,
+        },
+        Place::Bound(column, end) => match b {
+            Place::Bound(other, other_end) => column == other && is_end(end, other_end),
+            Place::Row(_, _) => false,
+        },
+    }
+}
+
+fn end_order(end: End) -> u64
+    ensures { result ≡ end_rank end }
+{
+    match end {
+        End::Lower => 0,
+        End::Upper => 1,
+    }
+}
+
+/// The order of the places of sides.
+fn order(place: Place) -> u64
+    ensures { result ≡ rank place }
+{
+    match place {
+        Place::Row(row, end) => 2 * row as u64 + end_order(end),
+        Place::Bound(column, end) => (1 << 33) + (2 * column as u64 + end_order(end)),
+    }
+}
+
+/// How many sides stand before this place.
+fn sides_before(sides: &[Side], place: Place) -> usize
+    requires { RanksRise 0 sides.now }
+    ensures within { result ≤ length sides.now }
+    ensures before { (k : ℕ) (d : Side) → k < result → rank (slice_index_or sides.now k d).place < rank place }
+    ensures after { (k : ℕ) (d : Side) → result ≤ k → k < length sides.now → rank place ≤ rank (slice_index_or sides.now k d).place }
+{
+    let target = order(place);
+    let mut low = 0;
+    let mut high = sides.len();
+    while low < high {
+        let middle = low + (high - low) / 2;
+        if order(sides[middle].place) < target {
+            low = middle + 1;
+        } else {
+            high = middle;
+        }
+    }
+    low
+}
+
+/// The number of the side at this place.
+fn number_in(sides: &[Side], place: Place) -> Option<u32>
+    requires size { length sides.now ≤ 2 ^ 22 }
+    requires order { RanksRise 0 sides.now }
+    ensures { result ≡ side_number place sides.now }
+{
+    let number = sides_before(sides, place);
+    if number == sides.len() {
+        return None;
+    }
+    let side = &sides[number];
+    if is_place(place, side.place) {
+        Some(number as u32)
+    } else {
+        None
+    }
+}

@@ -1,0 +1,27 @@
+//! Mixed-integer linear models, their rows and bounds as inequalities in whole numbers, and points.
+#![tactic(auto)]
+
+mod decimals;
+mod integer_forms;
+mod laws;
+mod linear;
+mod mip;
+mod places;
+mod points;
+mod row_lists;
+mod row_numbers;
+mod row_shape;
+mod scaling;
+mod seq;
+mod side_list;
+#[cfg(test)]
+mod tests;
+mod violation;
+
+pub use integer_forms::{Forms, RowForm, RowShape};
+pub use laws::sides_meaning;
+pub use linear::{Ineq, Terms, Wide};
+pub use mip::{Column, Entries, Model, Name, Row, RowKind};
+pub use places::{End, Place, Side};
+pub use points::Point;
+pub use seq::Seq;

@@ -1,0 +1,87 @@
+ghost use Rattle.std.specs.Prelude.{◌≡◌, [], ◌∷◌, ◌++◌, OnOk, OnErr};
+
+use crate::Seq;
+use cgl_num::{Dec, Memory};
+use smallvec::SmallVec;
+use std::alloc::Global;
+
+/// Bytes of a name.
+pub type Name = Seq<u8>;
+
+#[derive(Clone, Copy, Debug, PartialEq, Eq)]
+pub enum RowKind {
+    N,
+    L,
+    G,
+    E,
+}
+
+/// A row. Its ends follow from its kind, its right side and its range.
+#[derive(Drop)]
+pub struct Row {
+    pub name: Name,
+    pub kind: RowKind,
+    pub rhs: Dec,
+    pub range: Option<Dec>,
+}
+
+/// Entries of a column: rows, by their numbers from 0, with coefficients; or of a row, by columns.
+#[derive(Drop)]
+pub struct Entries {
+    items: SmallVec<(u32, Dec), 4>,
+}
+
+impl std::marker::Model for Entries {
+    ghost use Rattle.std.specs.Prelude.{List, ℕ};
+    ghost use Rattle.cgl_num.specs.Decimal.{Decimal};
+
+    ghost Value = { List (ℕ × Decimal) };
+
+    ghost view = { λ it. it.items.items };
+}
+
+impl Entries {
+    pub fn new(alloc: Global) -> Entries
+        ensures { result ≡ [] }
+    {
+        Entries {
+            items: SmallVec::new(alloc),
+        }
+    }
+
+    pub fn as_slice(&self) -> &[(u32, Dec)]
+        ensures { result.now ≡ self.now }
+    {
+        self.items.as_slice()
+    }
+
+    /// Appends an item. Where memory is refused the list is as it was.
+    pub fn push(&mut self, item: (u32, Dec)) -> Result<(), Memory>
+        ensures ok { OnOk result (self.new ≡ self.old ++ item ∷ []) }
+        ensures err { OnErr result (self.new ≡ self.old) }
+    {
+        match self.items.push(item) {
+            Ok(()) => Ok(()),
+            Err(_) => Err(Memory),
+        }
+    }
+}
+
+/// A column. A bound that is None is infinite.
+#[derive(Drop)]
+pub struct Column {
+    pub name: Name,
+    pub integer: bool,
+    pub lo: Option<Dec>,
+    pub up: Option<Dec>,
+    pub entries: Entries,
+}
+
+/// A model. Its objective is its first N row.
+#[derive(Drop)]
+pub struct Model {
+    pub name: Name,
+    pub maximise: bool,
+    pub rows: Seq<Row>,
+    pub cols: Seq<Column>,
+}

@@ -1,0 +1,178 @@
+ghost use Rattle.std.specs.Prelude.{◌≡◌, ◌≤◌, ◌<ℤ◌, ◌^◌, ◌∷◌, [], length, pos, IfOk};
+
+use crate::{Column, End, Entries, Forms, Ineq, Model, Place, Point, Row, RowKind, Seq, Terms};
+use cgl_num::{Dec, Memory};
+use std::alloc::Global;
+use std::test::Fail;
+
+fn dec(text: &str) -> Dec {
+    match Dec::read(text.as_bytes()) {
+        Ok(number) => number,
+        Err(_) => Dec::default(),
+    }
+}
+
+fn row(alloc: Global, kind: RowKind, rhs: &str, range: Option<Dec>) -> Row {
+    Row {
+        name: Seq::new(alloc),
+        kind,
+        rhs: dec(rhs),
+        range,
+    }
+}
+
+fn rows(alloc: Global) -> Result<Seq<Row>, Memory>
+    ensures { IfOk result (λ rows. length rows ≤ 2 ^ 20) }
+{
+    let mut rows = Seq::new(alloc);
+    rows.push(row(alloc, RowKind::L, "1.75", None))?;
+    rows.push(row(alloc, RowKind::L, "1", None))?;
+    rows.push(row(alloc, RowKind::L, "1", None))?;
+    rows.push(row(alloc, RowKind::E, "5", Some(dec("-2"))))?;
+    Ok(rows)
+}
+
+fn column(alloc: Global, lo: &str, entries: &[(u32, &str)]) -> Result<Column, Memory> {
+    let mut list = Entries::new(alloc);
+    for entry in entries {
+        list.push((entry.0, dec(entry.1)))?;
+    }
+    Ok(Column {
+        name: Seq::new(alloc),
+        integer: false,
+        lo: Some(dec(lo)),
+        up: None,
+        entries: list,
+    })
+}
+
+fn columns(alloc: Global) -> Result<Seq<Column>, Memory>
+    ensures { IfOk result (λ columns. length columns ≤ 2 ^ 20) }
+{
+    let mut columns = Seq::new(alloc);
+    let entries = [(0, "0.5"), (1, "1e30"), (2, "1e30"), (3, "1")];
+    columns.push(column(alloc, "0.5", &entries)?)?;
+    columns.push(column(alloc, "0", &[(0, "0.25"), (2, "0.1")])?)?;
+    Ok(columns)
+}
+
+/// `0.5x + 0.25y <= 1.75`, `1e30x <= 1`, `1e30x + 0.1y <= 1`, `x` from 3 to 5, with `x >= 0.5` and `y >= 0`.
+fn model(alloc: Global) -> Result<Model, Memory>
+    ensures { IfOk result (λ m. (length m.rows ≤ 2 ^ 20) × (length m.cols ≤ 2 ^ 20)) }
+{
+    Ok(Model {
+        name: Seq::new(alloc),
+        maximise: false,
+        rows: rows(alloc)?,
+        cols: columns(alloc)?,
+    })
+}
+
+#[test]
+fn forms_of_a_model(rt: HostRuntime) -> Result<(), Fail> {
+    let Ok(m) = model(rt.alloc()) else {
+        assert!(rt; false);
+        return Ok(());
+    };
+    let Ok(forms) = Forms::build(rt.alloc(), &m) else {
+        assert!(rt; false);
+        return Ok(());
+    };
+    let power = 10i128.pow(30);
+    let sides: [(Place, &[(u32, i128)], i128); 6] = [
+        (Place::Row(0, End::Upper), &[(0, -2), (1, -1)], -7),
+        (Place::Row(1, End::Upper), &[(0, -power)], -1),
+        (Place::Row(3, End::Lower), &[(0, 1)], 3),
+        (Place::Row(3, End::Upper), &[(0, -1)], -5),
+        (Place::Bound(0, End::Lower), &[(0, 2)], 1),
+        (Place::Bound(1, End::Lower), &[(1, 1)], 0),
+    ];
+    assert_eq!(rt; forms.sides().len(), sides.len());
+    for (side, (place, terms, rhs)) in forms.sides().iter().zip(sides.iter()) {
+        assert!(rt; side.place == *place);
+        assert_eq!(rt; side.ineq.terms.as_slice(), *terms);
+        assert_eq!(rt; side.ineq.rhs, *rhs);
+    }
+    Ok(())
+}
+
+#[test]
+fn rows_and_places(rt: HostRuntime) -> Result<(), Fail> {
+    let Ok(m) = model(rt.alloc()) else {
+        assert!(rt; false);
+        return Ok(());
+    };
+    let Ok(forms) = Forms::build(rt.alloc(), &m) else {
+        assert!(rt; false);
+        return Ok(());
+    };
+    let found = [
+        (Place::Row(0, End::Upper), Some(0u32)),
+        (Place::Row(0, End::Lower), None),
+        (Place::Row(2, End::Upper), None),
+        (Place::Row(9, End::Upper), None),
+        (Place::Bound(0, End::Lower), Some(4u32)),
+        (Place::Bound(0, End::Upper), None),
+    ];
+    for (place, number) in found {
+        assert!(rt; forms.find(place) == number);
+    }
+    assert!(rt; !forms.wide(1));
+    assert!(rt; forms.wide(2));
+    assert!(rt; !forms.wide(9));
+    assert!(rt; forms.row_form(2).is_none());
+    match forms.row_form(3) {
+        Some(form) => {
+            assert!(rt; form.lo == Some(3));
+            assert!(rt; form.up == Some(5));
+            assert_eq!(rt; form.rhs, 5);
+        }
+        None => assert!(rt; false),
+    }
+    Ok(())
+}
+
+/// `2x >= 1`.
+fn half(alloc: Global) -> Result<Ineq, Memory>
+    ensures { IfOk result (λ c. c.terms ≡ (0, pos 2) ∷ []) }
+{
+    let mut terms = Terms::new(alloc);
+    terms.push((0, 2))?;
+    Ok(Ineq { terms, rhs: 1 })
+}
+
+fn point(alloc: Global, x: i128, d: i128) -> Result<Point, Memory>
+    requires { pos 0 <ℤ d }
+    ensures { IfOk result (λ p. length p.p ≡ 1) }
+{
+    let mut p = Seq::new(alloc);
+    p.push(x)?;
+    Ok(Point::new(p, d))
+}
+
+#[test]
+fn violations(rt: HostRuntime) -> Result<(), Fail> {
+    let Ok(c) = half(rt.alloc()) else {
+        assert!(rt; false);
+        return Ok(());
+    };
+    for (x, d, num, den) in [(1, 4, 1, 2), (3, 4, -1, 2), (0, 5, 1, 1)] {
+        let Ok(p) = point(rt.alloc(), x, d.max(1)) else {
+            assert!(rt; false);
+            return Ok(());
+        };
+        match c.violation(&p) {
+            Ok(violation) => {
+                assert_eq!(rt; violation.num(), num);
+                assert_eq!(rt; violation.den(), den);
+            }
+            Err(_) => assert!(rt; false),
+        }
+    }
+    let Ok(p) = point(rt.alloc(), i128::MAX, 1) else {
+        assert!(rt; false);
+        return Ok(());
+    };
+    assert!(rt; c.violation(&p).is_err());
+    Ok(())
+}
