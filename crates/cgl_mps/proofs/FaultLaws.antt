@@ -1,0 +1,115 @@
+-- The first condition that holds, and the judgement of a line's pairs.
+use Rattle.std.proofs.Common.{◌≡◌, refl, sym, ap, ap₂, ◌∙◌, arith, ℕ, ◌+◌, ◌^◌, ◌<◌, ◌≤◌, ◌==◌, nat_lt, Bool, true, false, cond, not, ◌&&◌, ◌||◌, List, [], ◌∷◌, ◌++◌, append-nil, length, take, Option, Some, None, is_some, unwrap_or, option_map}
+use Rattle.std.specs.List.{list_any, cons_option}
+use Rattle.std.proofs.lemmas.Bool.Decides.{nat_tests}
+use denote.Ref.{Bor}
+use Rattle.cgl_num.specs.NumberText.{Word, is_number, limit}
+use Rattle.cgl_mps.specs.declared.record.BoundKind.{BoundKind}
+use Rattle.cgl_mps.specs.declared.record.BoundKind.TheVariants.{Lo, Li, Up, Ui, Fx, Fr, Mi, Pl, Bv}
+use Rattle.cgl_text.specs.Text.{lines_of}
+use Rattle.cgl_mps.specs.Records.{Record}
+use Rattle.cgl_mps.specs.Sections.{Pair, pairs_of, sense_in, senses, needs_value}
+use Rattle.cgl_mps.specs.Faults.{Condition, first_kind, each_pair, no_word, conditions, fault_after, takes, is_value_of}
+use Rattle.cgl_mps.specs.Decode.{deck_limits}
+use Rattle.cgl_mps.specs.Seen.{words, word_at}
+use Rattle.cgl_mps.specs.Found.{has_sense}
+
+-- senses
+
+given : (o : Option Word) (ws : List Word) (b : Bool) → not (no_word ws) ≡ b → not (no_word (cons_option o ws)) ≡ (is_some o || b)
+given None ws b e = e
+given (Some w) ws b e = refl
+
+pub any_sense : (records : List Record) → list_any has_sense records ≡ not (no_word (senses records))
+any_sense [] = refl
+any_sense (r ∷ records) = sym (given (sense_in r) (senses records) (list_any has_sense records) (sym (any_sense records)))
+
+-- the first condition
+
+found_first : (b : Bool) (kind : ℕ) (rest : Option ℕ) (k : ℕ) (more : Option ℕ) → cond b (Some kind) rest ≡ Some k → (rest ≡ Some k → more ≡ Some k) → cond b (Some kind) more ≡ Some k
+found_first true kind rest k more e go = e
+found_first false kind rest k more e go = go e
+
+pub first_kind-some : (these others : List Condition) (k : ℕ) → first_kind these ≡ Some k → first_kind (these ++ others) ≡ Some k
+first_kind-some [] others k e = cc
+first_kind-some (c ∷ these) others k e = found_first c.0 c.1 (first_kind these) k (first_kind (these ++ others)) e (first_kind-some these others k)
+
+none_first : (b : Bool) (kind : ℕ) (rest more later : Option ℕ) → cond b (Some kind) rest ≡ None → (rest ≡ None → more ≡ later) → cond b (Some kind) more ≡ later
+none_first true kind rest more later e go = cc
+none_first false kind rest more later e go = go e
+
+pub first_kind-none : (these others : List Condition) → first_kind these ≡ None → first_kind (these ++ others) ≡ first_kind others
+first_kind-none [] others e = refl
+first_kind-none (c ∷ these) others e = none_first c.0 c.1 (first_kind these) (first_kind (these ++ others)) (first_kind others) e (first_kind-none these others)
+
+-- two pairs at most
+
+abbrev Judge : Type 0
+Judge = List Pair → Pair → List Condition
+
+abbrev Fields : Type 0
+Fields = List (Bor (List ℕ))
+
+-- what a judgement of two words says of the same two words elsewhere
+pub judged : (judge : Judge) (earlier : List Pair) (row value row' value' : Word) (kind : Option ℕ) → kind ≡ first_kind (judge earlier (row', value')) → row' ≡ row → value' ≡ value
+    → first_kind (judge earlier (row, value)) ≡ kind
+judged judge earlier row value row' value' kind is rows values = sym (is ∙ ap₂ (λ a b. first_kind (judge earlier (a, b))) rows values)
+
+pub no_pair : (judge : Judge) (fields : Fields) → length fields < 2 → first_kind (each_pair judge [] (pairs_of (words fields))) ≡ None
+no_pair judge [] lt = refl
+no_pair judge (a ∷ []) lt = refl
+no_pair judge (a ∷ (b ∷ fields)) lt = absurd (omega arith)
+
+pub first_pair : (judge : Judge) (fields : Fields) (k : ℕ) → 2 ≤ length fields → first_kind (judge [] (word_at 0 fields, word_at 1 fields)) ≡ Some k
+    → first_kind (each_pair judge [] (pairs_of (words fields))) ≡ Some k
+first_pair judge [] k le e = absurd (omega arith)
+first_pair judge (a ∷ []) k le e = absurd (omega arith)
+first_pair judge (a ∷ (b ∷ fields)) k le e = first_kind-some (judge [] (a.now, b.now)) (each_pair judge ((a.now, b.now) ∷ []) (pairs_of (words fields))) k e
+
+pub one_pair : (judge : Judge) (fields : Fields) → 2 ≤ length fields → length fields < 4 → first_kind (judge [] (word_at 0 fields, word_at 1 fields)) ≡ None
+    → first_kind (each_pair judge [] (pairs_of (words fields))) ≡ None
+one_pair judge [] le lt e = absurd (omega arith)
+one_pair judge (a ∷ []) le lt e = absurd (omega arith)
+one_pair judge (a ∷ (b ∷ [])) le lt e = ap first_kind (append-nil (judge [] (a.now, b.now))) ∙ e
+one_pair judge (a ∷ (b ∷ (c ∷ []))) le lt e = ap first_kind (append-nil (judge [] (a.now, b.now))) ∙ e
+one_pair judge (a ∷ (b ∷ (c ∷ (d ∷ fields)))) le lt e = absurd (omega arith)
+
+pub second_pair : (judge : Judge) (fields : Fields) → 4 ≤ length fields → length fields ≤ 5 → first_kind (judge [] (word_at 0 fields, word_at 1 fields)) ≡ None
+    → first_kind (each_pair judge [] (pairs_of (words fields))) ≡ first_kind (judge (pairs_of (words (take 2 fields))) (word_at 2 fields, word_at 3 fields))
+second_pair judge [] le lt e = absurd (omega arith)
+second_pair judge (a ∷ []) le lt e = absurd (omega arith)
+second_pair judge (a ∷ (b ∷ [])) le lt e = absurd (omega arith)
+second_pair judge (a ∷ (b ∷ (c ∷ []))) le lt e = absurd (omega arith)
+second_pair judge (a ∷ (b ∷ (c ∷ (d ∷ [])))) le lt e =
+    first_kind-none (judge [] (a.now, b.now)) (judge ((a.now, b.now) ∷ []) (c.now, d.now) ++ []) e ∙ ap first_kind (append-nil (judge ((a.now, b.now) ∷ []) (c.now, d.now)))
+second_pair judge (a ∷ (b ∷ (c ∷ (d ∷ (f ∷ []))))) le lt e =
+    first_kind-none (judge [] (a.now, b.now)) (judge ((a.now, b.now) ∷ []) (c.now, d.now) ++ []) e ∙ ap first_kind (append-nil (judge ((a.now, b.now) ∷ []) (c.now, d.now)))
+second_pair judge (a ∷ (b ∷ (c ∷ (d ∷ (f ∷ (g ∷ fields)))))) le lt e = absurd (omega arith)
+
+-- the limit on bytes
+
+not_over : (bytes : List ℕ) → length bytes ≤ 2 ^ 30 → nat_lt (2 ^ 30) (length bytes) ≡ false
+not_over bytes le = grind (arith, nat_tests)
+
+not_more : (b c : Bool) (x y : Option ℕ) → b ≡ false → y ≡ cond (b && c) x y
+not_more true c x y e = cc
+not_more false c x y e = refl
+
+pub within_limits : (bytes : List ℕ) (before : List Record) (r : Record) → length bytes ≤ 2 ^ 30
+    → first_kind ((nat_lt 4096 r.bytes, 11) ∷ conditions deck_limits before r) ≡ fault_after deck_limits bytes before r
+unfolding fault_after
+within_limits bytes before r le =
+    not_more (nat_lt (2 ^ 30) (length bytes)) (length (lines_of (take (2 ^ 30 + 1) bytes)) == r.line) (Some 12) (first_kind ((nat_lt 4096 r.bytes, 11) ∷ conditions deck_limits before r)) (not_over bytes le)
+
+-- values of bounds
+
+pub value_cases : (kind : BoundKind) (value : Option Word) → is_value_of kind value ≡ cond (needs_value kind) (unwrap_or (option_map (takes kind) (limit (unwrap_or value []))) false) (unwrap_or (option_map is_number value) true)
+value_cases Lo value = refl
+value_cases Li value = refl
+value_cases Up value = refl
+value_cases Ui value = refl
+value_cases Fx value = refl
+value_cases Fr value = refl
+value_cases Mi value = refl
+value_cases Pl value = refl
+value_cases Bv value = refl

@@ -1,0 +1,16 @@
+pub mod NameLaws
+pub mod SplitLaws
+pub mod CountLaws
+pub mod FaultLaws
+pub mod ReadingLaws
+pub mod BoundLaws
+pub mod ModelLaws
+pub mod JudgedLaws
+pub mod DistinctLaws
+pub mod SizeLaws
+pub mod SoundLaws
+pub mod EntryLaws
+pub mod BoundValueLaws
+pub mod ValidLaws
+pub mod DecimalLaws
+pub mod NarrowLaws

@@ -1,0 +1,440 @@
+//! The first fault of a line, after the records before it.
+
+ghost use Rattle.std.specs.Prelude.{◌≡◌, ◌∷◌, ◌+◌, ◌^◌, ◌≤◌, [], ℕ, List, Some, false, length, nat_lt, not, option_map, true, unwrap_or};
+ghost use Rattle.std.specs.List.{list_any};
+ghost use Rattle.cgl_num.specs.NumberText.{is_number, limit};
+ghost use Rattle.cgl_mps.specs.Decode.{deck_limits};
+ghost use Rattle.cgl_mps.specs.Sections.{counts_after, pairs_of, senses};
+ghost use Rattle.cgl_mps.specs.Faults.{bound_conditions, column_conditions, columns_conditions, conditions, data_conditions, each_pair, entry_conditions, fault_after, first_kind, header_conditions, is_header_form, is_long, is_marker_form, is_misplaced, is_sense_form, is_value_of, needs, no_word, pair_conditions, rank, row_conditions, sense_conditions, set_conditions, takes, value_conditions};
+ghost use Rattle.cgl_mps.specs.Seen.{word, words};
+ghost use Rattle.cgl_mps.specs.Found.{has_sense, is_behind};
+
+use crate::bound::Bound;
+use crate::counts::{is_full_of_columns, is_full_of_entries, is_full_of_rows};
+use crate::names::{has_entry, has_row, has_value, is_new_column, is_split, lacks_column};
+use crate::numbers::{is_number, limit, number};
+use crate::record::{BoundKind, Record, Section, field};
+use crate::records::is_kept;
+use crate::sections::{
+    bound_in, counts_after, entry_fields, has_header, is_marker, is_sense, names_row, needs_value,
+    row_in, same_bytes, sense_in, set_fields, word_at,
+};
+use cgl_num::Limit;
+
+fn is_long(name: &[u8]) -> bool
+    ensures { result ≡ is_long name.now }
+{
+    name.len() > 255
+}
+
+// headers
+
+fn rank(section: Section) -> u8
+    ensures { result ≡ rank section }
+{
+    match section {
+        Section::Name => 0,
+        Section::Sense => 1,
+        Section::Rows => 2,
+        Section::Columns => 3,
+        Section::End => 5,
+        _ => 4,
+    }
+}
+
+fn needs(section: Section, before: &[Record]) -> bool
+    ensures { result ≡ needs section before.now }
+{
+    match section {
+        Section::Columns => has_header(Section::Rows, before),
+        Section::Rhs | Section::Ranges | Section::Bounds => has_header(Section::Columns, before),
+        _ => true,
+    }
+}
+
+fn is_behind(section: Section, h: &Record) -> bool
+    ensures { result ≡ is_behind section h.now }
+{
+    h.is_header() && rank(section) < rank(h.section())
+}
+
+fn some_behind(section: Section, before: &[Record]) -> bool
+    ensures { result ≡ list_any (is_behind section) before.now }
+{
+    before.iter().any(|h| is_behind(section, h))
+}
+
+fn is_misplaced(before: &[Record], r: &Record) -> bool
+    ensures { result ≡ is_misplaced before.now r.now }
+{
+    let section = r.section();
+    if some_behind(section, before) {
+        return true;
+    }
+    if has_header(section, before) {
+        return true;
+    }
+    !needs(section, before)
+}
+
+fn is_header_form(r: &Record) -> bool
+    ensures { result ≡ is_header_form r.now.section r.now }
+{
+    match r.section() {
+        Section::Name => true,
+        Section::Sense => r.fields().len() == 1 || (r.fields().len() == 2 && is_sense(field(r, 1))),
+        _ => r.fields().len() == 1,
+    }
+}
+
+fn header_fault(before: &[Record], r: &Record) -> Option<u8>
+    ensures { result ≡ first_kind (header_conditions before.now r.now) }
+{
+    if r.section().is(Section::Unsupported) {
+        return Some(9);
+    }
+    if r.section().is(Section::Unknown) {
+        return Some(1);
+    }
+    if is_misplaced(before, r) {
+        return Some(2);
+    }
+    if !is_header_form(r) {
+        return Some(3);
+    }
+    if r.section().is(Section::Name) && is_long(field(r, 1)) {
+        return Some(11);
+    }
+    None
+}
+
+// OBJSENSE
+
+fn has_sense(r: &Record) -> bool
+    ensures { result ≡ has_sense r.now }
+{
+    sense_in(r).is_some()
+}
+
+fn some_sense(before: &[Record]) -> bool
+    ensures { result ≡ list_any has_sense before.now }
+{
+    before.iter().any(|r| has_sense(r))
+}
+
+fn is_sense_given(before: &[Record]) -> bool
+    ensures { result ≡ not (no_word (senses before.now)) }
+{
+    some_sense(before)
+}
+
+fn sense_fault(before: &[Record], r: &Record) -> Option<u8>
+    ensures { result ≡ first_kind (sense_conditions before.now r.now) }
+{
+    if is_sense_given(before) {
+        return Some(2);
+    }
+    if !(r.fields().len() == 1 && is_sense(field(r, 0))) {
+        return Some(3);
+    }
+    None
+}
+
+// ROWS
+
+fn row_fault(before: &[Record], r: &Record) -> Option<u8>
+    ensures { result ≡ first_kind (row_conditions deck_limits before.now r.now) }
+{
+    if row_in(r.fields()).is_none() {
+        return Some(3);
+    }
+    let name = field(r, 1);
+    if same_bytes(name, b"'MARKER'") {
+        return Some(9);
+    }
+    if is_long(name) {
+        return Some(11);
+    }
+    if has_row(before, name) {
+        return Some(7);
+    }
+    if is_full_of_rows(before) {
+        return Some(12);
+    }
+    None
+}
+
+// COLUMNS
+
+fn is_marker_form(r: &Record) -> bool
+    ensures { result ≡ is_marker_form r.now }
+{
+    same_bytes(field(r, 2), b"'INTORG'") || same_bytes(field(r, 2), b"'INTEND'")
+}
+
+fn entry_fault(
+    before: &[Record],
+    name: &[u8],
+    earlier: &[&[u8]],
+    row: &[u8],
+    value: &[u8],
+) -> Option<u8>
+    ensures { result
+        ≡ first_kind (entry_conditions deck_limits before.now name.now
+        (pairs_of (words earlier.now)) (row.now, value.now)) }
+{
+    if !has_row(before, row) {
+        return Some(5);
+    }
+    if has_entry(before, name, row) || names_row(earlier, row) {
+        return Some(7);
+    }
+    if number(value).is_none() {
+        return Some(4);
+    }
+    if is_full_of_entries(before, earlier) {
+        return Some(12);
+    }
+    None
+}
+
+/// The first fault of at most two pairs.
+fn entries_fault(before: &[Record], name: &[u8], fields: &[&[u8]]) -> Option<u8>
+    requires { length fields.now ≤ 5 }
+    ensures { result
+        ≡ first_kind (each_pair (entry_conditions deck_limits before.now name.now) []
+        (pairs_of (words fields.now))) }
+{
+    if fields.len() < 2 {
+        return None;
+    }
+    if let Some(kind) = entry_fault(before, name, &[], word_at(fields, 0), word_at(fields, 1)) {
+        return Some(kind);
+    }
+    if fields.len() < 4 {
+        return None;
+    }
+    entry_fault(
+        before,
+        name,
+        &fields[..2],
+        word_at(fields, 2),
+        word_at(fields, 3),
+    )
+}
+
+fn column_fault(before: &[Record], r: &Record) -> Option<u8>
+    requires { length r.now.fields ≤ 5 }
+    ensures { result ≡ first_kind (column_conditions deck_limits before.now r.now) }
+{
+    let name = field(r, 0);
+    if is_long(name) {
+        return Some(11);
+    }
+    if is_split(before, name) {
+        return Some(8);
+    }
+    if is_new_column(before, name) && is_full_of_columns(before) {
+        return Some(12);
+    }
+    entries_fault(before, name, entry_fields(r))
+}
+
+fn columns_fault(before: &[Record], r: &Record) -> Option<u8>
+    ensures { result ≡ first_kind (columns_conditions deck_limits before.now r.now) }
+{
+    let count = r.fields().len();
+    if !(count == 3 || count == 5) {
+        return Some(3);
+    }
+    if !is_marker(r) {
+        return column_fault(before, r);
+    }
+    if !is_marker_form(r) {
+        return Some(9);
+    }
+    None
+}
+
+// RHS and RANGES
+
+fn pair_fault(
+    section: Section,
+    before: &[Record],
+    r: &Record,
+    earlier: &[&[u8]],
+    row: &[u8],
+    value: &[u8],
+) -> Option<u8>
+    ensures { result
+        ≡ first_kind (pair_conditions section before.now (counts_after section before.now r.now)
+        (pairs_of (words earlier.now)) (row.now, value.now)) }
+{
+    let counts = counts_after(section, before, r);
+    if counts && !has_row(before, row) {
+        return Some(5);
+    }
+    if counts && (has_value(section, before, r, row) || names_row(earlier, row)) {
+        return Some(7);
+    }
+    if number(value).is_none() {
+        return Some(4);
+    }
+    None
+}
+
+/// The first fault of at most two pairs.
+fn pairs_fault(section: Section, before: &[Record], r: &Record, fields: &[&[u8]]) -> Option<u8>
+    requires { length fields.now ≤ 5 }
+    ensures { result
+        ≡ first_kind (each_pair
+        (pair_conditions section before.now (counts_after section before.now r.now)) []
+        (pairs_of (words fields.now))) }
+{
+    if fields.len() < 2 {
+        return None;
+    }
+    if let Some(kind) = pair_fault(
+        section,
+        before,
+        r,
+        &[],
+        word_at(fields, 0),
+        word_at(fields, 1),
+    ) {
+        return Some(kind);
+    }
+    if fields.len() < 4 {
+        return None;
+    }
+    pair_fault(
+        section,
+        before,
+        r,
+        &fields[..2],
+        word_at(fields, 2),
+        word_at(fields, 3),
+    )
+}
+
+fn set_fault(section: Section, before: &[Record], r: &Record) -> Option<u8>
+    ensures { result ≡ first_kind (set_conditions section before.now r.now) }
+{
+    let count = r.fields().len();
+    if count < 2 || count > 5 {
+        return Some(3);
+    }
+    pairs_fault(section, before, r, set_fields(r))
+}
+
+// BOUNDS
+
+fn takes(kind: BoundKind, value: &Limit) -> bool
+    ensures { result ≡ takes kind value.now }
+{
+    match value {
+        Limit::Finite(_) => true,
+        Limit::Minus => matches!(kind, BoundKind::Lo | BoundKind::Li),
+        Limit::Plus => matches!(kind, BoundKind::Up | BoundKind::Ui),
+    }
+}
+
+fn is_number_or_none(value: Option<&[u8]>) -> bool
+    ensures { result ≡ unwrap_or (option_map is_number (option_map word value.entry)) true }
+{
+    match value {
+        Some(value) => is_number(value),
+        None => true,
+    }
+}
+
+fn is_taken(kind: BoundKind, value: Option<&[u8]>) -> bool
+    ensures { result
+        ≡ unwrap_or
+        (option_map (takes kind) (limit (unwrap_or (option_map word value.entry) []))) false }
+{
+    let text = match value {
+        Some(value) => value,
+        None => &[],
+    };
+    match limit(text) {
+        Some(value) => takes(kind, &value),
+        None => false,
+    }
+}
+
+#[tactic(auto, using(crate::proofs::FaultLaws::value_cases))]
+fn is_value_of(kind: BoundKind, value: Option<&[u8]>) -> bool
+    ensures { result ≡ is_value_of kind (option_map word value.entry) }
+{
+    if needs_value(kind) {
+        return is_taken(kind, value);
+    }
+    is_number_or_none(value)
+}
+
+fn value_fault(before: &[Record], counts: bool, bound: &Bound) -> Option<u8>
+    ensures { result ≡ first_kind (value_conditions before.now counts (Some bound.now)) }
+{
+    if counts && lacks_column(before, bound.column()) {
+        return Some(6);
+    }
+    if !is_value_of(bound.kind(), bound.value()) {
+        return Some(4);
+    }
+    None
+}
+
+fn bound_fault(before: &[Record], r: &Record) -> Option<u8>
+    ensures { result ≡ first_kind (bound_conditions before.now r.now) }
+{
+    let kind = field(r, 0);
+    if same_bytes(kind, b"SC") || same_bytes(kind, b"SI") {
+        return Some(9);
+    }
+    match bound_in(r.fields()) {
+        Some(bound) => value_fault(before, counts_after(Section::Bounds, before, r), &bound),
+        None => Some(3),
+    }
+}
+
+// a line
+
+fn data_fault(before: &[Record], r: &Record) -> Option<u8>
+    ensures { result ≡ first_kind (data_conditions r.now.section deck_limits before.now r.now) }
+{
+    match r.section() {
+        Section::Sense => sense_fault(before, r),
+        Section::Rows => row_fault(before, r),
+        Section::Columns => columns_fault(before, r),
+        Section::Rhs => set_fault(Section::Rhs, before, r),
+        Section::Ranges => set_fault(Section::Ranges, before, r),
+        Section::Bounds => bound_fault(before, r),
+        _ => Some(2),
+    }
+}
+
+fn fault_within(before: &[Record], r: &Record) -> Option<u8>
+    ensures { result
+        ≡ first_kind ((nat_lt 4096 r.now.bytes, 11) ∷ conditions deck_limits before.now r.now) }
+{
+    if r.length() > 4096 {
+        return Some(11);
+    }
+    if !is_kept(r) {
+        return None;
+    }
+    if r.is_header() {
+        return header_fault(before, r);
+    }
+    data_fault(before, r)
+}
+
+/// The kind of fault that the line is after the kept records before it, if it is one,
+/// in a text of at most 2^30 bytes.
+pub(crate) fn fault_after(before: &[Record], r: &Record) -> Option<u8>
+    ensures { (bytes : List ℕ) → length bytes ≤ 2 ^ 30
+        → result ≡ fault_after deck_limits bytes before.now r.now }
+{
+    fault_within(before, r)
+}

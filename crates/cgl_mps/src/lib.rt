@@ -1,0 +1,27 @@
+//! Decks in the MPS format.
+#![tactic(auto)]
+
+mod bound;
+mod counts;
+mod deck;
+pub mod examples;
+mod faults;
+pub mod laws;
+mod models;
+mod models_bounds;
+mod models_columns;
+mod models_rows;
+mod models_valid;
+mod names;
+mod narrow;
+mod numbers;
+mod record;
+mod records;
+mod sections;
+#[cfg(test)]
+mod tests_models;
+
+pub use deck::{DeckError, deck_of};
+pub use models_valid::{decks_are_decimal, decks_are_sized, decks_are_valid};
+pub use narrow::narrow_deck;
+pub use record::{BoundKind, Record, Section};

@@ -1,0 +1,87 @@
+//! The model that the records of a deck mean.
+
+ghost use Rattle.std.specs.Prelude.{◌≡◌, IfOk, [], ◌∷◌, codes, filter_map, option_map};
+ghost use Rattle.std.specs.List.{list_any};
+ghost use Rattle.cgl_text.specs.Text.{is_one_of};
+ghost use Rattle.cgl_mps.specs.Sections.{senses};
+ghost use Rattle.cgl_mps.specs.Models.{last_or, name_in, model_of};
+ghost use Rattle.cgl_mps.specs.Seen.{word};
+
+use crate::models_columns::columns_of;
+use crate::models_rows::{row_names, rows_of};
+use crate::record::{Record, Section};
+use crate::sections::{same_bytes, sense_in};
+use cgl_model::{Model, Name, Seq};
+use cgl_num::Memory;
+use std::alloc::Global;
+
+/// A copy of the bytes.
+pub(crate) fn copied_name(alloc: Global, bytes: &[u8]) -> Result<Name, Memory>
+    ensures { IfOk result (λ name. name ≡ bytes.now) }
+{
+    let Ok(items) = bytes.to_vec(alloc) else {
+        return Err(Memory);
+    };
+    Ok(Seq::from_vec(items))
+}
+
+fn name_in<'a>(r: &Record<'a>) -> Option<&'a [u8]>
+    ensures { option_map word result ≡ name_in r.now }
+{
+    if Section::Name.is(r.section()) {
+        r.fields().get(1).copied()
+    } else {
+        None
+    }
+}
+
+/// The name on the last NAME line that has one.
+fn name_of<'a>(records: &[Record<'a>]) -> &'a [u8]
+    ensures { result.now ≡ last_or [] (filter_map name_in records.now) }
+{
+    let mut name: &'a [u8] = &[];
+    for r in records {
+        if let Some(found) = name_in(r) {
+            name = found;
+        }
+    }
+    name
+}
+
+fn is_greatest(sense: &[u8]) -> bool
+    ensures { result ≡ is_one_of (codes "MAX" ∷ codes "MAXIMIZE" ∷ []) sense.now }
+{
+    same_bytes(sense, b"MAX") || same_bytes(sense, b"MAXIMIZE")
+}
+
+fn maximises(records: &[Record]) -> bool
+    ensures { result
+        ≡ list_any (is_one_of (codes "MAX" ∷ codes "MAXIMIZE" ∷ [])) (senses records.now) }
+{
+    for r in records {
+        if let Some(sense) = sense_in(r) {
+            if is_greatest(sense) {
+                return true;
+            }
+        }
+    }
+    false
+}
+
+/// The model of a deck without faults, from its records that have fields.
+#[tactic(auto, unfolding(crate::specs::Models::model_of))]
+pub(crate) fn model_of(alloc: Global, records: &[Record]) -> Result<Model, Memory>
+    ensures { IfOk result (λ m. m ≡ model_of records.now) }
+{
+    let name = copied_name(alloc, name_of(records))?;
+    let maximise = maximises(records);
+    let rows = rows_of(alloc, records)?;
+    let names = row_names(alloc, records)?;
+    let cols = columns_of(alloc, records, &names)?;
+    Ok(Model {
+        name,
+        maximise,
+        rows,
+        cols,
+    })
+}

@@ -1,0 +1,189 @@
+//! The bounds of columns that the records of a deck mean.
+
+ghost use Rattle.std.specs.Prelude.{◌≡◌, ◌&&◌, IfOk, pos, if◌then◌else◌, [], ◌∷◌, None, Some, bytes_eq, filter, filter_map};
+ghost use Rattle.std.specs.List.{list_any, cons_option};
+ghost use Rattle.cgl_num.specs.NumberText.{whole, finite};
+ghost use Rattle.cgl_mps.specs.Records.{data_in};
+ghost use Rattle.cgl_mps.specs.Sections.{bound_in, counts_after};
+ghost use Rattle.cgl_mps.specs.Models.{makes_integer, lower_by, upper_by, is_upper, value_in, is_below_zero, lower_of, upper_of, bounds_of};
+
+use crate::bound::Bound;
+use crate::numbers::limit;
+use crate::record::{BoundKind, Record, Section};
+use crate::sections::{bound_in, counts_after, is_data_in, same_bytes};
+use cgl_num::{Dec, Limit, Memory};
+use std::alloc::Global;
+
+#[tactic(auto, unfolding(cgl_num::specs::Decimal::decimal_of))]
+pub(crate) fn zero() -> Dec
+    ensures { result ≡ whole (pos 0) }
+{
+    match Dec::whole(0) {
+        Some(zero) => zero,
+        None => unreachable!(),
+    }
+}
+
+#[tactic(auto, unfolding(cgl_num::specs::Decimal::decimal_of))]
+fn one() -> Dec
+    ensures { result ≡ whole (pos 1) }
+{
+    match Dec::whole(1) {
+        Some(one) => one,
+        None => unreachable!(),
+    }
+}
+
+/// What a record makes the lower bound, if it sets it.
+fn lower_by(kind: BoundKind, value: Option<Dec>) -> Option<Option<Dec>>
+    ensures { result ≡ lower_by kind value }
+{
+    match kind {
+        BoundKind::Lo | BoundKind::Li | BoundKind::Fx => Some(value),
+        BoundKind::Fr | BoundKind::Mi => Some(None),
+        BoundKind::Bv => Some(Some(zero())),
+        BoundKind::Up | BoundKind::Ui | BoundKind::Pl => None,
+    }
+}
+
+/// What a record makes the upper bound, if it sets it.
+fn upper_by(kind: BoundKind, value: Option<Dec>) -> Option<Option<Dec>>
+    ensures { result ≡ upper_by kind value }
+{
+    match kind {
+        BoundKind::Up | BoundKind::Ui | BoundKind::Fx => Some(value),
+        BoundKind::Fr | BoundKind::Pl => Some(None),
+        BoundKind::Bv => Some(Some(one())),
+        BoundKind::Lo | BoundKind::Li | BoundKind::Mi => None,
+    }
+}
+
+fn finite(value: Limit) -> Option<Dec>
+    ensures { result ≡ finite (Some value) }
+{
+    match value {
+        Limit::Finite(d) => Some(d),
+        Limit::Plus | Limit::Minus => None,
+    }
+}
+
+/// The bound's value, where it is finite.
+fn value_in(b: &Bound) -> Option<Dec>
+    ensures { result ≡ value_in b.now }
+{
+    let text = match b.value() {
+        Some(text) => text,
+        None => &[],
+    };
+    match limit(text) {
+        Some(value) => finite(value),
+        None => None,
+    }
+}
+
+fn is_negative_upper(b: &Bound) -> bool
+    ensures { result ≡ (is_upper b.now.kind && is_below_zero (value_in b.now)) }
+{
+    let is_upper = match b.kind() {
+        BoundKind::Up | BoundKind::Ui => true,
+        _ => false,
+    };
+    let is_below_zero = match value_in(b) {
+        Some(d) => d.m() < 0,
+        None => false,
+    };
+    is_upper && is_below_zero
+}
+
+fn has_negative_upper(bounds: &[Bound]) -> bool
+    ensures { result ≡ list_any (λ b. is_upper b.kind && is_below_zero (value_in b)) bounds.now }
+{
+    bounds.iter().any(|b| is_negative_upper(b))
+}
+
+/// The lower bound where no record sets it.
+fn lower_unset(bounds: &[Bound]) -> Option<Dec>
+    ensures { result
+        ≡ (if list_any (λ b. is_upper b.kind && is_below_zero (value_in b)) bounds.now then None
+        else Some (whole (pos 0))) }
+{
+    if has_negative_upper(bounds) {
+        None
+    } else {
+        Some(zero())
+    }
+}
+
+pub(crate) fn lower_of(bounds: &[Bound]) -> Option<Dec>
+    ensures { result ≡ lower_of bounds.now }
+{
+    let mut lower = lower_unset(bounds);
+    for b in bounds {
+        if let Some(set) = lower_by(b.kind(), value_in(b)) {
+            lower = set;
+        }
+    }
+    lower
+}
+
+pub(crate) fn upper_of(bounds: &[Bound]) -> Option<Dec>
+    ensures { result ≡ upper_of bounds.now }
+{
+    let mut upper = None;
+    for b in bounds {
+        if let Some(set) = upper_by(b.kind(), value_in(b)) {
+            upper = set;
+        }
+    }
+    upper
+}
+
+pub(crate) fn makes_integer(bounds: &[Bound]) -> bool
+    ensures { result ≡ list_any (λ b. makes_integer b.kind) bounds.now }
+{
+    bounds.iter().any(|b| match b.kind() {
+        BoundKind::Li | BoundKind::Ui | BoundKind::Bv => true,
+        _ => false,
+    })
+}
+
+/// What a line says of the column's bounds, where it counts.
+fn bound_on<'a>(records: &[Record], r: &Record<'a>, column: &[u8]) -> Option<Bound<'a>>
+    ensures { cons_option result []
+        ≡ filter (λ b. bytes_eq column.now b.column) (filter_map (λ r. bound_in r.fields)
+        (filter (counts_after Section.Bounds records.now) (data_in Section.Bounds (r.now ∷ [])))) }
+{
+    if !is_data_in(Section::Bounds, r) {
+        return None;
+    }
+    let Some(bound) = bound_in(r.fields()) else {
+        return None;
+    };
+    if !same_bytes(column, bound.column()) {
+        return None;
+    }
+    // the search for the set that counts comes last, since it is the longest
+    if !counts_after(Section::Bounds, records, r) {
+        return None;
+    }
+    Some(bound)
+}
+
+/// The bounds that count for a column.
+pub(crate) fn bounds_of<'a>(
+    alloc: Global,
+    records: &[Record<'a>],
+    column: &[u8],
+) -> Result<Vec<Bound<'a>>, Memory>
+    ensures { IfOk result (λ found. found.items ≡ bounds_of records.now column.now) }
+{
+    let mut found = Vec::new(alloc);
+    for r in records {
+        if let Some(bound) = bound_on(records, r, column) {
+            let Ok(()) = found.push(bound) else {
+                return Err(Memory);
+            };
+        }
+    }
+    Ok(found)
+}

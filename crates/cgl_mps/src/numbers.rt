@@ -1,0 +1,33 @@
+//! Numbers and bounds in the fields of a deck.
+
+ghost use Rattle.std.specs.Prelude.{◌≡◌};
+ghost use Rattle.cgl_num.specs.NumberText.{is_number, limit, number};
+
+use cgl_num::{Dec, is_number_text};
+
+/// The number that the text means, where it is one within the limits.
+pub(crate) fn number(text: &[u8]) -> Option<Dec>
+    ensures { result ≡ number text.now }
+{
+    match Dec::read(text) {
+        Ok(d) => Some(d),
+        Err(_) => None,
+    }
+}
+
+/// The bound's value that the text means, where it is one.
+pub(crate) fn limit(text: &[u8]) -> Option<cgl_num::Limit>
+    ensures { result ≡ limit text.now }
+{
+    match Dec::read_bound(text) {
+        Ok(value) => Some(value),
+        Err(_) => None,
+    }
+}
+
+/// Whether the text has the form of a number.
+pub(crate) fn is_number(text: &[u8]) -> bool
+    ensures { result ≡ is_number text.now }
+{
+    is_number_text(text)
+}

@@ -1,0 +1,148 @@
+ghost use Rattle.std.specs.Prelude.{◌≡◌, map};
+ghost use Rattle.cgl_mps.specs.Records.{place, same_section, field};
+
+use std::marker::Model;
+
+/// The section in which a line stands.
+#[derive(Clone, Copy, Debug, PartialEq, Eq)]
+pub enum Section {
+    Start,
+    Name,
+    Sense,
+    Rows,
+    Columns,
+    Rhs,
+    Ranges,
+    Bounds,
+    End,
+    Unsupported,
+    Unknown,
+}
+
+impl Section {
+    fn place(self) -> u8
+        ensures { result ≡ place self }
+    {
+        match self {
+            Section::Start => 0,
+            Section::Name => 1,
+            Section::Sense => 2,
+            Section::Rows => 3,
+            Section::Columns => 4,
+            Section::Rhs => 5,
+            Section::Ranges => 6,
+            Section::Bounds => 7,
+            Section::End => 8,
+            Section::Unsupported => 9,
+            Section::Unknown => 10,
+        }
+    }
+
+    pub(crate) fn is(self, other: Section) -> bool
+        ensures { result ≡ same_section self other }
+    {
+        self.place() == other.place()
+    }
+}
+
+#[derive(Clone, Copy, Debug, PartialEq, Eq)]
+pub enum BoundKind {
+    Lo,
+    Li,
+    Up,
+    Ui,
+    Fx,
+    Fr,
+    Mi,
+    Pl,
+    Bv,
+}
+
+/// A line of a deck with its section and its fields. A line that is ignored has no fields.
+#[derive(Drop)]
+pub struct Record<'a> {
+    line: u64,
+    length: usize,
+    section: Section,
+    header: bool,
+    fields: Vec<&'a [u8]>,
+}
+
+impl<'a> Model for Record<'a> {
+    ghost use Rattle.std.specs.Prelude.{map};
+    ghost use Rattle.cgl_mps.specs.Records.{Record as Line};
+
+    ghost Value = { Line };
+
+    ghost view = { λ it. record { line = it.line; bytes = it.length; section = it.section; header = it.header; fields = map (λ f. f.now) it.fields.items } };
+}
+
+impl<'a> Record<'a> {
+    pub(crate) fn new(
+        line: u64,
+        length: usize,
+        section: Section,
+        header: bool,
+        fields: Vec<&'a [u8]>,
+    ) -> Record<'a>
+        ensures { result
+            ≡ record {
+              line = line;
+              bytes = length;
+              section = section;
+              header = header;
+              fields = map (λ f. f.now) fields.entry.items;
+            } }
+    {
+        Record {
+            line,
+            length,
+            section,
+            header,
+            fields,
+        }
+    }
+
+    /// The line's number from 1.
+    pub fn line(&self) -> u64
+        ensures { result ≡ self.now.line }
+    {
+        self.line
+    }
+
+    /// The count of the line's bytes.
+    pub fn length(&self) -> usize
+        ensures { result ≡ self.now.bytes }
+    {
+        self.length
+    }
+
+    pub fn section(&self) -> Section
+        ensures { result ≡ self.now.section }
+    {
+        self.section
+    }
+
+    /// Whether the line begins its section.
+    pub fn is_header(&self) -> bool
+        ensures { result ≡ self.now.header }
+    {
+        self.header
+    }
+
+    pub fn fields(&self) -> &[&'a [u8]]
+        ensures { map (λ f. f.now) result.now ≡ self.now.fields }
+    {
+        self.fields.as_slice()
+    }
+}
+
+/// The field at place k from 0, and an empty one where there is none.
+pub fn field<'a>(r: &Record<'a>, k: usize) -> &'a [u8]
+    ensures { result.now ≡ field k r.now }
+{
+    match r.fields().get(k) {
+        Some(found) => *found,
+        None => &[],
+    }
+}

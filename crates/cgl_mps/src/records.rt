@@ -1,0 +1,116 @@
+//! Lines of a deck as records.
+
+ghost use Rattle.std.specs.Prelude.{◌≡◌, IfOk};
+ghost use Rattle.cgl_text.specs.Text.{is_one_of};
+ghost use Rattle.cgl_mps.specs.Records.{is_end, is_kept, kept_fields, record_of, section_after, section_named, unsupported};
+ghost use Rattle.cgl_mps.specs.Seen.{words};
+
+use crate::record::{Record, Section};
+use crate::sections::same_bytes;
+use cgl_num::Memory;
+use cgl_text::{begins_blank, fields};
+use std::alloc::Global;
+
+fn is_unsupported(name: &[u8]) -> bool
+    ensures { result ≡ is_one_of unsupported name.now }
+{
+    same_bytes(name, b"SOS")
+        || same_bytes(name, b"SOS1")
+        || same_bytes(name, b"SOS2")
+        || same_bytes(name, b"QUADOBJ")
+        || same_bytes(name, b"QMATRIX")
+        || same_bytes(name, b"QSECTION")
+        || same_bytes(name, b"QCMATRIX")
+        || same_bytes(name, b"INDICATORS")
+        || same_bytes(name, b"CSECTION")
+        || same_bytes(name, b"LAZYCONS")
+        || same_bytes(name, b"USERCUTS")
+        || same_bytes(name, b"OBJNAME")
+}
+
+/// The section that a header's word opens.
+fn section_named(name: &[u8]) -> Section
+    ensures { result ≡ section_named name.now }
+{
+    if same_bytes(name, b"NAME") {
+        return Section::Name;
+    }
+    if same_bytes(name, b"OBJSENSE") {
+        return Section::Sense;
+    }
+    if same_bytes(name, b"ROWS") {
+        return Section::Rows;
+    }
+    if same_bytes(name, b"COLUMNS") {
+        return Section::Columns;
+    }
+    if same_bytes(name, b"RHS") {
+        return Section::Rhs;
+    }
+    if same_bytes(name, b"RANGES") {
+        return Section::Ranges;
+    }
+    if same_bytes(name, b"BOUNDS") {
+        return Section::Bounds;
+    }
+    if same_bytes(name, b"ENDATA") {
+        return Section::End;
+    }
+    if is_unsupported(name) {
+        return Section::Unsupported;
+    }
+    Section::Unknown
+}
+
+/// The fields of a line. A comment has none.
+fn kept_fields(alloc: Global, line: &[u8]) -> Result<Vec<&[u8]>, Memory>
+    ensures { IfOk result (λ found. words found.items ≡ kept_fields line.now) }
+{
+    match line {
+        [] => Ok(Vec::new(alloc)),
+        [first, ..] => {
+            if *first == b'*' {
+                return Ok(Vec::new(alloc));
+            }
+            fields(alloc, line)
+        }
+    }
+}
+
+/// The record of line n, after a line in the section.
+pub(crate) fn record_of<'a>(
+    alloc: Global,
+    n: u64,
+    section: Section,
+    line: &'a [u8],
+) -> Result<Record<'a>, Memory>
+    ensures { IfOk result (λ r. r ≡ record_of n (section_after section line.now) line.now) }
+{
+    let Ok(fields) = kept_fields(alloc, line) else {
+        return Err(Memory);
+    };
+    match fields.as_slice() {
+        [] => Ok(Record::new(n, line.len(), section, false, fields)),
+        [first, ..] => {
+            if begins_blank(line) {
+                return Ok(Record::new(n, line.len(), section, false, fields));
+            }
+            let named = section_named(first);
+            Ok(Record::new(n, line.len(), named, true, fields))
+        }
+    }
+}
+
+/// Whether the record has fields.
+pub(crate) fn is_kept(r: &Record) -> bool
+    ensures { result ≡ is_kept r.now }
+{
+    !r.fields().is_empty()
+}
+
+/// Whether the record is the ENDATA line or follows it.
+pub(crate) fn is_end(r: &Record) -> bool
+    ensures { result ≡ is_end r.now }
+{
+    r.section().is(Section::End)
+}

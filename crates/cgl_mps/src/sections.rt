@@ -1,0 +1,282 @@
+//! What one record, or a list of records, says.
+
+ghost use Rattle.std.specs.Prelude.{◌≡◌, ◌≤◌, ◌&&◌, bytes_eq, length, map, not, option_map};
+ghost use Rattle.std.specs.List.{list_any};
+ghost use Rattle.cgl_text.specs.Text.{is_one_of};
+ghost use Rattle.cgl_mps.specs.Records.{same_section, has_header, data_in};
+ghost use Rattle.cgl_mps.specs.Sections.{sense_names, sense_in, row_kind, row_in, marker, is_marker, names_column, pairs_of, rest, entry_pairs, set_pairs, bound_kinds, needs_value, bound_with, bound_in, set_in, same_set, first_or, counts_after};
+ghost use Rattle.cgl_mps.specs.Faults.{names_row};
+ghost use Rattle.cgl_mps.specs.Seen.{word, words, word_at, bound_kind};
+
+use crate::bound::Bound;
+use crate::record::{BoundKind, Record, Section, field};
+use cgl_model::RowKind;
+
+pub(crate) fn same_bytes(a: &[u8], b: &[u8]) -> bool
+    ensures { result ≡ bytes_eq a.now b.now }
+{
+    a == b
+}
+
+/// Whether the record is a data line of the section.
+pub(crate) fn is_data_in(section: Section, r: &Record) -> bool
+    ensures { result ≡ (not r.now.header && same_section section r.now.section) }
+{
+    !r.is_header() && section.is(r.section())
+}
+
+/// Whether the section's header stands among the records.
+pub(crate) fn has_header(section: Section, records: &[Record]) -> bool
+    ensures { result ≡ has_header section records.now }
+{
+    records
+        .iter()
+        .any(|r| r.is_header() && section.is(r.section()))
+}
+
+// OBJSENSE
+
+/// Whether the word is one for a sense.
+pub(crate) fn is_sense(text: &[u8]) -> bool
+    ensures { result ≡ is_one_of sense_names text.now }
+{
+    same_bytes(text, b"MAX")
+        || same_bytes(text, b"MAXIMIZE")
+        || same_bytes(text, b"MIN")
+        || same_bytes(text, b"MINIMIZE")
+}
+
+/// The word that stands in the place of the sense.
+pub(crate) fn sense_in<'a>(r: &Record<'a>) -> Option<&'a [u8]>
+    ensures { option_map word result ≡ sense_in r.now }
+{
+    if !r.section().is(Section::Sense) {
+        return None;
+    }
+    let place = if r.is_header() { 1 } else { 0 };
+    r.fields().get(place).copied()
+}
+
+// ROWS
+
+fn row_kind(text: &[u8]) -> Option<RowKind>
+    ensures { result ≡ row_kind text.now }
+{
+    if same_bytes(text, b"N") {
+        Some(RowKind::N)
+    } else if same_bytes(text, b"L") {
+        Some(RowKind::L)
+    } else if same_bytes(text, b"G") {
+        Some(RowKind::G)
+    } else if same_bytes(text, b"E") {
+        Some(RowKind::E)
+    } else {
+        None
+    }
+}
+
+/// A row's kind and name, where the fields are these two.
+pub(crate) fn row_in<'a>(fields: &[&'a [u8]]) -> Option<(RowKind, &'a [u8])>
+    ensures { option_map (λ r. (r.0, r.1.now)) result ≡ row_in (words fields.now) }
+{
+    match fields {
+        [kind, name] => match row_kind(kind) {
+            Some(kind) => Some((kind, *name)),
+            None => None,
+        },
+        _ => None,
+    }
+}
+
+// COLUMNS
+
+/// Whether the record is a marker line of COLUMNS.
+pub(crate) fn is_marker(r: &Record) -> bool
+    ensures { result ≡ is_marker r.now }
+{
+    r.fields().len() == 3 && same_bytes(field(r, 1), b"'MARKER'")
+}
+
+pub(crate) fn names_column(name: &[u8], r: &Record) -> bool
+    ensures { result ≡ names_column name.now r.now }
+{
+    !is_marker(r) && same_bytes(name, field(r, 0))
+}
+
+/// The fields behind the first.
+fn rest<'b, 'a>(fields: &'b [&'a [u8]]) -> &'b [&'a [u8]]
+    ensures words { words result.now ≡ rest (words fields.now) }
+    ensures within { length result.now ≤ length fields.now }
+{
+    match fields {
+        [] => fields,
+        [_, others @ ..] => others,
+    }
+}
+
+/// The fields of a column's line that are rows and values in turn.
+pub(crate) fn entry_fields<'b, 'a>(r: &'b Record<'a>) -> &'b [&'a [u8]]
+    ensures pairs { pairs_of (words result.now) ≡ entry_pairs r.now }
+    ensures within { length result.now ≤ length r.now.fields }
+{
+    rest(r.fields())
+}
+
+/// The field at place k from 0, and an empty one where there is none.
+pub(crate) fn word_at<'a>(fields: &[&'a [u8]], k: usize) -> &'a [u8]
+    ensures { result.now ≡ word_at k fields.now }
+{
+    match fields.get(k) {
+        Some(found) => *found,
+        None => &[],
+    }
+}
+
+/// Whether a pair of these fields names the row.
+pub(crate) fn names_row(fields: &[&[u8]], row: &[u8]) -> bool
+    ensures { result ≡ names_row (pairs_of (words fields.now)) row.now }
+{
+    match fields {
+        [first, _, others @ ..] => same_bytes(row, first) || names_row(others, row),
+        _ => false,
+    }
+}
+
+// RHS and RANGES
+
+/// The fields of a line of RHS or RANGES that are rows and values in turn.
+pub(crate) fn set_fields<'b, 'a>(r: &'b Record<'a>) -> &'b [&'a [u8]]
+    ensures pairs { pairs_of (words result.now) ≡ set_pairs r.now }
+    ensures within { length result.now ≤ length r.now.fields }
+{
+    let fields = r.fields();
+    if fields.len() % 2 == 1 {
+        rest(fields)
+    } else {
+        fields
+    }
+}
+
+// BOUNDS
+
+fn bound_kind(text: &[u8]) -> Option<BoundKind>
+    ensures { result ≡ bound_kind text.now }
+{
+    if same_bytes(text, b"LO") {
+        Some(BoundKind::Lo)
+    } else if same_bytes(text, b"LI") {
+        Some(BoundKind::Li)
+    } else if same_bytes(text, b"UP") {
+        Some(BoundKind::Up)
+    } else if same_bytes(text, b"UI") {
+        Some(BoundKind::Ui)
+    } else if same_bytes(text, b"FX") {
+        Some(BoundKind::Fx)
+    } else if same_bytes(text, b"FR") {
+        Some(BoundKind::Fr)
+    } else if same_bytes(text, b"MI") {
+        Some(BoundKind::Mi)
+    } else if same_bytes(text, b"PL") {
+        Some(BoundKind::Pl)
+    } else if same_bytes(text, b"BV") {
+        Some(BoundKind::Bv)
+    } else {
+        None
+    }
+}
+
+/// Whether a bound of the kind says nothing without a value.
+pub(crate) fn needs_value(kind: BoundKind) -> bool
+    ensures { result ≡ needs_value kind }
+{
+    match kind {
+        BoundKind::Fr | BoundKind::Mi | BoundKind::Pl | BoundKind::Bv => false,
+        _ => true,
+    }
+}
+
+fn bound_with<'a>(kind: BoundKind, needs_value: bool, fields: &[&'a [u8]]) -> Option<Bound<'a>>
+    ensures { result ≡ bound_with kind needs_value (words fields.now) }
+{
+    match fields {
+        [column] => {
+            if needs_value {
+                return None;
+            }
+            Some(Bound::new(kind, None, column, None))
+        }
+        [first, second] => {
+            if needs_value {
+                return Some(Bound::new(kind, None, first, Some(second)));
+            }
+            Some(Bound::new(kind, Some(first), second, None))
+        }
+        [set, column, value] => Some(Bound::new(kind, Some(set), column, Some(value))),
+        _ => None,
+    }
+}
+
+/// The bound that the fields say, where they are of the form.
+pub(crate) fn bound_in<'a>(fields: &[&'a [u8]]) -> Option<Bound<'a>>
+    ensures { result ≡ bound_in (words fields.now) }
+{
+    match fields {
+        [] => None,
+        [kind, others @ ..] => match bound_kind(kind) {
+            Some(kind) => bound_with(kind, needs_value(kind), others),
+            None => None,
+        },
+    }
+}
+
+// sets
+
+/// The set that a line of the section names.
+pub(crate) fn set_in<'a>(section: Section, r: &Record<'a>) -> Option<&'a [u8]>
+    ensures { option_map word result ≡ set_in section r.now }
+{
+    if section.is(Section::Bounds) {
+        return match bound_in(r.fields()) {
+            Some(bound) => bound.set(),
+            None => None,
+        };
+    }
+    if r.fields().len() % 2 == 1 {
+        r.fields().first().copied()
+    } else {
+        None
+    }
+}
+
+pub(crate) fn same_set(a: Option<&[u8]>, b: Option<&[u8]>) -> bool
+    ensures { result ≡ same_set (option_map word a.entry) (option_map word b.entry) }
+{
+    match (a, b) {
+        (None, None) => true,
+        (Some(a), Some(b)) => same_bytes(a, b),
+        _ => false,
+    }
+}
+
+/// The set of the section's first data line among the records, or of r where there is none.
+pub(crate) fn first_set<'a>(
+    section: Section,
+    records: &[Record<'a>],
+    r: &Record<'a>,
+) -> Option<&'a [u8]>
+    ensures { option_map word result ≡ set_in section (first_or r.now (data_in section records.now)) }
+{
+    for first in records {
+        if is_data_in(section, first) {
+            return set_in(section, first);
+        }
+    }
+    set_in(section, r)
+}
+
+/// Whether r's set is the one that counts, after the records.
+pub(crate) fn counts_after(section: Section, records: &[Record], r: &Record) -> bool
+    ensures { result ≡ counts_after section records.now r.now }
+{
+    same_set(first_set(section, records, r), set_in(section, r))
+}
