@@ -1,0 +1,171 @@
+-- One reading, line by line, gives the outcome that the filters over all records say.
+use Rattle.std.proofs.Common.{◌≡◌, refl, sym, ap, ap₂, ◌∙◌, arith, ℕ, ◌+◌, ◌^◌, ◌<◌, ◌≤◌, nat_lt, Bool, true, false, cond, ◌&&◌, ◌==◌, List, [], ◌∷◌, ◌++◌, append-nil, append_assoc, length, take, drop, get_or, filter_map, option_map, Option, Some, None, Result, Ok, Err}
+use Rattle.std.specs.List.{cons_option}
+use Rattle.std.specs.Result.{IfOk}
+use Rattle.std.proofs.lemmas.List.{drop_more}
+use Rattle.std.proofs.lemmas.List.Elements.{filter-append, filter_map-append}
+use Rattle.std.proofs.lemmas.Bool.Decides.{nat_tests}
+use denote.Ref.{Bor}
+use Rattle.cgl_text.specs.Text.{lines_of}
+use Rattle.cgl_model.specs.declared.mip.Model.{Model}
+use Rattle.cgl_where.specs.PointFile.{Record, record_of, records_from, records, before, kept, is_kept, values, is_too_fine, is_over, most_bytes, first_kind, value_conditions, fault_after, fault_at, point_of, Outcome, Fault, outcome}
+use Rattle.cgl_where.specs.Reading.{turn, read_from, ReadsAlike}
+use Rattle.cgl_where.specs.Seen.{words}
+
+-- ---- the records before a line
+
+not_below : (n m : ℕ) → m ≤ n → nat_lt n m ≡ false
+not_below n m le = grind (arith, nat_tests)
+
+is_below : (n m : ℕ) → n < m → nat_lt n m ≡ true
+is_below n m lt = grind (arith, nat_tests)
+
+first-fault : {X Y : Type 0} (h : X → Option Y) (xs ys : List X) (x : X) → filter_map h xs ≡ [] → filter_map h (xs ++ x ∷ ys) ≡ cons_option (h x) (filter_map h ys)
+first-fault h xs ys x none = filter_map-append h xs (x ∷ ys) ∙ ap (λ l. l ++ cons_option (h x) (filter_map h ys)) none
+
+-- each of these stands before line n
+abbrev AllBelow : ℕ → List Record → Type 0
+AllBelow n [] = Unit {0}
+AllBelow n (r ∷ rs) = (r.line < n) × AllBelow n rs
+
+below-push : (n : ℕ) (rs : List Record) (r : Record) → r.line ≡ n → AllBelow n rs → AllBelow (n + 1) (rs ++ r ∷ [])
+below-push n [] r at all = (omega (arith, at), tt)
+below-push n (s ∷ rs) r at all = (omega (arith, all.0), below-push n rs r at all.1)
+
+kept-below : (n : ℕ) (r : Record) (rs : List Record) → r.line < n → before n (kept rs) ≡ kept rs → (b : Bool) → before n (cond b (r ∷ kept rs) (kept rs)) ≡ cond b (r ∷ kept rs) (kept rs)
+kept-below n r rs lt all true = ap (λ c. cond c (r ∷ before n (kept rs)) (before n (kept rs))) (is_below r.line n lt) ∙ ap (λ l. r ∷ l) all
+kept-below n r rs lt all false = all
+
+before-kept : (n : ℕ) (rs : List Record) → AllBelow n rs → before n (kept rs) ≡ kept rs
+before-kept n [] all = refl
+before-kept n (r ∷ rs) all = kept-below n r rs all.0 (before-kept n rs all.1) (is_kept r)
+
+none-later : (m : ℕ) (r : Record) (rs : List Record) → m ≤ r.line → before m (kept rs) ≡ [] → (k : Bool) → before m (cond k (r ∷ kept rs) (kept rs)) ≡ []
+none-later m r rs le none true = ap (λ c. cond c (r ∷ before m (kept rs)) (before m (kept rs))) (not_below r.line m le) ∙ none
+none-later m r rs le none false = none
+
+before-later : (m n : ℕ) (lines : List (List ℕ)) → m ≤ n → before m (kept (records_from n lines)) ≡ []
+before-later m n [] le = refl
+before-later m n (line ∷ lines) le =
+    none-later m (record_of n line) (records_from (n + 1) lines) le (before-later m (n + 1) lines (omega arith)) (is_kept (record_of n line))
+
+-- the records before line n, seen from the whole list
+before-all : (all : List Record) (n : ℕ) (done later : List Record) → all ≡ done ++ later → AllBelow n done → before n (kept later) ≡ [] → before n (kept all) ≡ kept done
+before-all all n done later parts below none =
+    ap (λ l. before n (kept l)) parts
+    ∙ ap (before n) (filter-append is_kept done later)
+    ∙ filter-append (λ r. nat_lt r.line n) (kept done) (kept later)
+    ∙ ap₂ (λ a b. a ++ b) (before-kept n done below) none
+    ∙ append-nil (kept done)
+
+-- ---- one line after another
+
+-- one turn: at a fault, and else with what the later lines give
+one-turn : (most : ℕ) (bytes : List ℕ) (m : Model) (all done others : List Record) (r : Record) (later : Outcome)
+    → all ≡ done ++ r ∷ others
+    → filter_map (fault_at most bytes m all) done ≡ []
+    → before r.line (kept all) ≡ kept done
+    → (fault_after most bytes m (kept done) r ≡ None → outcome m (filter_map (fault_at most bytes m all) all) all ≡ later)
+    → (kind : Option ℕ) → fault_after most bytes m (kept done) r ≡ kind
+    → outcome m (filter_map (fault_at most bytes m all) all) all ≡ turn kind r.line later
+one-turn most bytes m all done others r later parts fine here goes_on (Some kind) is =
+    let found : fault_at most bytes m all r ≡ Some (r.line, kind) = ap (λ b. option_map (λ k. (r.line, k)) (fault_after most bytes m b r)) here ∙ ap (option_map (λ k. (r.line, k))) is in
+    ap (λ f. outcome m f all)
+    (ap (filter_map (fault_at most bytes m all)) parts
+    ∙ first-fault (fault_at most bytes m all) done others r fine
+    ∙ ap (λ o. cons_option o (filter_map (fault_at most bytes m all) others)) found)
+one-turn most bytes m all done others r later parts fine here goes_on None is = goes_on is
+
+go : (most : ℕ) (bytes : List ℕ) (m : Model) (all : List Record) (lines : List (List ℕ)) (n : ℕ) (done : List Record)
+    → all ≡ done ++ records_from n lines
+    → filter_map (fault_at most bytes m all) done ≡ []
+    → AllBelow n done
+    → outcome m (filter_map (fault_at most bytes m all) all) all ≡ read_from most bytes m n (kept done) lines
+go most bytes m all [] n done parts fine below =
+    ap (λ l. outcome m (filter_map (fault_at most bytes m all) l) l) (parts ∙ append-nil done)
+    ∙ ap (λ f. outcome m f done) fine
+go most bytes m all (line ∷ lines) n done parts fine below =
+    let r = record_of n line in
+    let others = records_from (n + 1) lines in
+    let here : before n (kept all) ≡ kept done = before-all all n done (records_from n (line ∷ lines)) parts below (before-later n n (line ∷ lines) (omega arith)) in
+    one-turn most bytes m all done others r (read_from most bytes m (n + 1) (kept done ++ kept (r ∷ [])) lines) parts fine here
+    (λ is.
+    let good : fault_at most bytes m all r ≡ None = ap (λ b. option_map (λ k. (r.line, k)) (fault_after most bytes m b r)) here ∙ ap (option_map (λ k. (r.line, k))) is in
+    go most bytes m all lines (n + 1) (done ++ r ∷ [])
+    (parts ∙ sym (append_assoc done (r ∷ []) others))
+    (first-fault (fault_at most bytes m all) done [] r fine ∙ ap (λ o. cons_option o []) good)
+    (below-push n done r refl below)
+    ∙ ap (λ l. read_from most bytes m (n + 1) l lines) (filter-append is_kept done (r ∷ [])))
+    (fault_after most bytes m (kept done) r) refl
+
+pub reads_alike : ReadsAlike
+reads_alike most bytes m = go most bytes m (records bytes) (lines_of bytes) 1 [] refl refl tt
+
+-- ---- the limit on bytes
+
+not_over : (bytes : List ℕ) → length bytes ≤ 2 ^ 30 → nat_lt (2 ^ 30) (length bytes) ≡ false
+not_over bytes le = grind (arith, nat_tests)
+
+not_more : (b c : Bool) (x y : Option ℕ) → b ≡ false → y ≡ cond (b && c) x y
+not_more true c x y e = cc
+not_more false c x y e = refl
+
+pub within_limits : (bytes : List ℕ) (m : Model) (before : List Record) (r : Record) → length bytes ≤ 2 ^ 30
+    → first_kind ((nat_lt 4096 r.bytes, 11) ∷ cond (is_kept r) (value_conditions m before r) []) ≡ fault_after most_bytes bytes m before r
+unfolding fault_after
+within_limits bytes m before r le =
+    not_more (nat_lt (2 ^ 30) (length bytes)) (length (lines_of (take (2 ^ 30 + 1) bytes)) == r.line) (Some 12) (first_kind ((nat_lt 4096 r.bytes, 11) ∷ cond (is_kept r) (value_conditions m before r) [])) (not_over bytes le)
+
+pub if_ok_then : {X E : Type 0} (P Q : X → Type 0) (r : Result X E) → ((x : X) → P x → Q x) → IfOk r P → IfOk r Q
+if_ok_then P Q (Ok x) h p = h x p
+if_ok_then P Q (Err e) h p = p
+
+-- ---- a line without fault
+
+passed : (b : Bool) (kind : ℕ) (o : Option ℕ) → cond b (Some kind) o ≡ None → o ≡ None
+passed true kind o e = cc
+passed false kind o e = e
+
+fine : (b : Bool) (kind : ℕ) → cond b (Some kind) None ≡ None → b ≡ false
+fine true kind e = cc
+fine false kind e = refl
+
+fine_case : (m : Model) (before : List Record) (r : Record) → is_too_fine (values before) ≡ false → (k : Bool) → first_kind (cond k (value_conditions m before r) []) ≡ None → is_too_fine (values (before ++ cond k (r ∷ []) [])) ≡ false
+fine_case m before r so_far true e = fine _ 13 (passed _ 4 _ (passed _ 14 _ (passed _ 6 _ (passed _ 3 _ e))))
+fine_case m before r so_far false e = ap (λ l. is_too_fine (values l)) (append-nil before) ∙ so_far
+
+pub fine_after : (bytes : List ℕ) (m : Model) (before : List Record) (r : Record) → fault_after most_bytes bytes m before r ≡ None → is_too_fine (values before) ≡ false → is_too_fine (values (before ++ kept (r ∷ []))) ≡ false
+unfolding fault_after
+fine_after bytes m before r e so_far =
+    fine_case m before r so_far (is_kept r) (passed (nat_lt 4096 r.bytes) 11 _ (passed (is_over most_bytes bytes r.line) 12 _ e))
+
+-- ---- lines as code holds them
+
+next_line : (bytes : List ℕ) (m : Model) (lines : List (Bor (List ℕ))) (i : ℕ) (line d : Bor (List ℕ)) (before : List Record) → line ≡ get_or lines i d → i < length lines
+    → read_from most_bytes bytes m (i + 1) before (words (drop i lines)) ≡ read_from most_bytes bytes m (i + 1) before (line.now ∷ words (drop (i + 1) lines))
+next_line bytes m lines i line d before is lt = ap (λ l. read_from most_bytes bytes m (i + 1) before (words l)) (drop_more lines i d lt ∙ ap (λ x. x ∷ drop (i + 1) lines) (sym is))
+
+pub line_passes : (bytes : List ℕ) (m : Model) (lines : List (Bor (List ℕ))) (i : ℕ) (line d : Bor (List ℕ)) (before after : List Record) (all : Outcome) → line ≡ get_or lines i d → i < length lines
+    → fault_after most_bytes bytes m before (record_of (i + 1) line.now) ≡ None
+    → after ≡ before ++ kept (record_of (i + 1) line.now ∷ [])
+    → read_from most_bytes bytes m (i + 1) before (words (drop i lines)) ≡ all
+    → read_from most_bytes bytes m (i + 1 + 1) after (words (drop (i + 1) lines)) ≡ all
+line_passes bytes m lines i line d before after all is lt none more so_far =
+    let later = words (drop (i + 1) lines) in
+    ap (λ l. read_from most_bytes bytes m (i + 1 + 1) l later) more
+    ∙ ap (λ k. turn k (i + 1) (read_from most_bytes bytes m (i + 1 + 1) (before ++ kept (record_of (i + 1) line.now ∷ [])) later)) (sym none)
+    ∙ sym (next_line bytes m lines i line d before is lt)
+    ∙ so_far
+
+pub line_stops : (bytes : List ℕ) (m : Model) (lines : List (Bor (List ℕ))) (i : ℕ) (line d : Bor (List ℕ)) (before : List Record) (kind : ℕ) (all : Outcome) → line ≡ get_or lines i d → i < length lines
+    → fault_after most_bytes bytes m before (record_of (i + 1) line.now) ≡ Some kind
+    → read_from most_bytes bytes m (i + 1) before (words (drop i lines)) ≡ all
+    → all ≡ Fault (i + 1) kind
+line_stops bytes m lines i line d before kind all is lt some so_far =
+    sym so_far
+    ∙ next_line bytes m lines i line d before is lt
+    ∙ ap (λ k. turn k (i + 1) (read_from most_bytes bytes m (i + 1 + 1) (before ++ kept (record_of (i + 1) line.now ∷ [])) (words (drop (i + 1) lines)))) some
+
+pub point_reads : (bytes : List ℕ) (m : Model) (lines : List (Bor (List ℕ))) → words lines ≡ lines_of bytes → read_from most_bytes bytes m 1 [] (words lines) ≡ point_of bytes m
+unfolding point_of
+point_reads bytes m lines is = ap (read_from most_bytes bytes m 1 []) is ∙ sym (reads_alike most_bytes bytes m)

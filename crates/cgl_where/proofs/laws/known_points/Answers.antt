@@ -1,0 +1,11 @@
+use Rattle.cgl_where.proofs.LimitLaws.{denominators_least, points_within, values_kept}
+use Rattle.cgl_where.proofs.laws.known_points.Goals as goal
+
+pub returns-clause-within : goal.returns-clause-within
+returns-clause-within c = points_within
+
+pub returns-clause-least : goal.returns-clause-least
+returns-clause-least c = denominators_least
+
+pub returns-clause-values : goal.returns-clause-values
+returns-clause-values c = values_kept

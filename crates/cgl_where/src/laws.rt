@@ -1,0 +1,11 @@
+//! What holds of every point file.
+
+ghost use Rattle.cgl_where.specs.Laws.{DenominatorsAreLeast, PointsAreWithin, ValuesAreKept};
+
+/// The point of a file has a denominator of at most 2^62 and numerators below 2^100 in magnitude.
+/// The common denominator of fractions is the least, and the numerators over it give the fractions back.
+pub fn known_points()
+    ensures within { PointsAreWithin }
+    ensures least { DenominatorsAreLeast }
+    ensures values { ValuesAreKept }
+{}

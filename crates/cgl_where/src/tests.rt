@@ -1,0 +1,154 @@
+use crate::{PointError, narrow_point, point_of};
+use cgl_model::{Column, Entries, Model, Name, Point, Seq};
+use std::alloc::{AllocError, Global};
+use std::test::Fail;
+
+fn named(alloc: Global, name: u8) -> Result<Name, AllocError> {
+    Ok(Seq::from_vec([name].to_vec(alloc)?))
+}
+
+fn column(alloc: Global, name: u8) -> Result<Column, AllocError> {
+    Ok(Column {
+        name: named(alloc, name)?,
+        integer: true,
+        lo: None,
+        up: None,
+        entries: Entries::new(alloc),
+    })
+}
+
+/// A model with the columns a, b and c.
+fn model(alloc: Global) -> Result<Model, AllocError> {
+    let mut columns = Vec::new(alloc);
+    columns.push(column(alloc, b'a')?)?;
+    columns.push(column(alloc, b'b')?)?;
+    columns.push(column(alloc, b'c')?)?;
+    Ok(Model {
+        name: named(alloc, b'P')?,
+        maximise: false,
+        rows: Seq::new(alloc),
+        cols: Seq::from_vec(columns),
+    })
+}
+
+fn read(alloc: Global, text: &[u8], model: &Model) -> Option<Result<Point, PointError>> {
+    if text.len() > 65536 {
+        return None;
+    }
+    Some(point_of(alloc, text, model))
+}
+
+fn read_narrow(alloc: Global, text: &[u8], model: &Model) -> Option<Result<Point, PointError>> {
+    if text.len() > 65536 {
+        return None;
+    }
+    Some(narrow_point(alloc, text, model))
+}
+
+/// Whether the answer is the fault.
+fn is_fault(answer: Option<Result<Point, PointError>>, line: u64, kind: u8) -> bool {
+    match answer {
+        Some(Err(e)) => e == PointError::Fault { line, kind },
+        _ => false,
+    }
+}
+
+/// Whether the answer is the point.
+fn is_point(answer: Option<Result<Point, PointError>>, p: &[i128], d: i128) -> bool {
+    match answer {
+        Some(Ok(x)) => x.numerators() == p && x.denominator() == d,
+        _ => false,
+    }
+}
+
+#[test]
+fn points_are_read(rt: HostRuntime) -> Result<(), Fail> {
+    let alloc = rt.alloc();
+    let model = model(alloc)?;
+    let cases: [(&[u8], [i128; 3], i128); 7] = [
+        (b"", [0, 0, 0], 1),
+        (b"* a 1\n\n\tc -2\r\n a 1/2\nb 2/6", [3, 2, -12], 6),
+        (
+            b"a 0.123456789012345678",
+            [61728394506172839, 0, 0],
+            500000000000000000,
+        ),
+        (b"b -6/4\nc +1e2\n", [0, -3, 200], 2),
+        (b"a 1/4611686018427387904", [1, 0, 0], 4611686018427387904),
+        (
+            b"a -1267650600228229401496703205375/1",
+            [-1267650600228229401496703205375, 0, 0],
+            1,
+        ),
+        (
+            b"a 999999999999999999999999999999999999/999999999999999999999999999999999999",
+            [1, 0, 0],
+            1,
+        ),
+    ];
+    for (text, p, d) in cases {
+        assert!(rt; is_point(read(alloc, text, &model), &p, d), "{text:?}");
+    }
+    Ok(())
+}
+
+#[test]
+fn faults_are_told(rt: HostRuntime) -> Result<(), Fail> {
+    let alloc = rt.alloc();
+    let model = model(alloc)?;
+    let cases: [(&[u8], u64, u8); 17] = [
+        (b"a 0.1234567890123456789", 1, 13),
+        (b"q 1", 1, 6),
+        (b"a 1\na 1", 2, 14),
+        (b"a 1/0", 1, 4),
+        (b"a 1/+2", 1, 4),
+        (b"a 1/2/3", 1, 4),
+        (b"a /2", 1, 4),
+        (b"a 1.5/2", 1, 4),
+        (b"a 1e36", 1, 4),
+        (b"a 1000000000000000000000000000000000000/3", 1, 4),
+        (b"* a\n\na", 3, 3),
+        (b"a 1 2\nq", 1, 3),
+        (b"q x\na x", 1, 6),
+        (b"a 1/2147483648\nb 1/2147483647\nc 1/3", 3, 13),
+        (b"a 1/2147483648\nb 1/2147483649\nc 1/3", 2, 13),
+        (b"a 1/4611686018427387905", 1, 13),
+        (b"a 1267650600228229401496703205376/1", 1, 13),
+    ];
+    for (text, line, kind) in cases {
+        assert!(rt; is_fault(read(alloc, text, &model), line, kind), "{text:?}");
+    }
+    Ok(())
+}
+
+#[test]
+fn long_lines_are_told(rt: HostRuntime) -> Result<(), Fail> {
+    let alloc = rt.alloc();
+    let model = model(alloc)?;
+    let longest = [b'*'; 4096];
+    let longer = [b'*'; 4097];
+    assert!(rt; is_point(read(alloc, &longest, &model), &[0, 0, 0], 1));
+    assert!(rt; is_fault(read(alloc, &longer, &model), 1, 11));
+    Ok(())
+}
+
+#[test]
+fn narrow_points_are_read(rt: HostRuntime) -> Result<(), Fail> {
+    let alloc = rt.alloc();
+    let model = model(alloc)?;
+    assert!(rt; is_point(read_narrow(alloc, b"c 1/2\na +3\n", &model), &[6, 0, 1], 2));
+    let cases: [(&[u8], u64, u8); 5] = [
+        (b"a 0.5", 1, 9),
+        (b"b 1\na 1e2", 1, 9),
+        (b"b 1\nq 1", 2, 9),
+        (b"b 1\na 1/+2", 2, 9),
+        (b"a 1000000000000000000000000/3", 1, 9),
+    ];
+    for (text, line, kind) in cases {
+        assert!(rt;
+            is_fault(read_narrow(alloc, text, &model), line, kind),
+            "{text:?}"
+        );
+    }
+    Ok(())
+}
