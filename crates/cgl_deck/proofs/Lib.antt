@@ -1,0 +1,11 @@
+pub mod ListLaws
+pub mod TermLaws
+pub mod NameLaws
+pub mod EntryLaws
+pub mod SizeLaws
+pub mod PlaceLaws
+pub mod PointLaws
+pub mod ExtensionLaws
+pub mod LengthLaws
+pub mod CountLaws
+pub mod ValidLaws

@@ -1,0 +1,56 @@
+-- Laws of lists that std lacks.
+use Rattle.std.proofs.Common.{◌≡◌, List, ℕ, suc, ◌+◌, ◌≤◌, [], ◌∷◌, ◌++◌, length, ap, refl, sym, ◌∙◌, Bool, true, false, not, nat_lt, Option, Some, None, inl, inr, append-nil, arith}
+use Rattle.std.specs.List.{list_all, zip, prefix_len, position}
+use Rattle.std.proofs.lemmas.Bool.{and_parts, cases_Bool, cond-false, le-ltb, ltb-false}
+
+pub nothing_left : {X : Type 0} (done more all : List X) → more ≡ [] → done ++ more ≡ all → done ≡ all
+nothing_left done more all none h = sym (append-nil done) ∙ sym (ap (λ m. done ++ m) none) ∙ h
+
+pub zip_first_ended : {X Y : Type 0} (xs : List X) (ys : List Y) → length xs ≡ 0 → zip xs ys ≡ []
+zip_first_ended [] ys h = refl
+zip_first_ended (x ∷ xs) ys h = absurd (omega arith)
+
+pub zip_second_ended : {X Y : Type 0} (xs : List X) (ys : List Y) → length ys ≡ 0 → zip xs ys ≡ []
+zip_second_ended [] ys h = refl
+zip_second_ended (x ∷ xs) [] h = refl
+zip_second_ended (x ∷ xs) (y ∷ ys) h = absurd (omega arith)
+
+all_in_prefix : {X : Type 0} (p : X → Bool) (xs : List X) → length xs ≤ prefix_len (λ x. not (not (p x))) xs → list_all p xs ≡ true
+all_in_prefix p [] le = refl
+all_in_prefix p (x ∷ xs) le =
+    elim (cases_Bool (p x)) [
+      | inl e ↦
+          let h : suc (length xs) ≤ 1 + prefix_len (λ y. not (not (p y))) xs = rw e at le in
+          rw e (all_in_prefix p xs (omega arith))
+      | inr e ↦
+          let h : suc (length xs) ≤ 0 = rw e at le in
+          absurd (omega arith)
+    ]
+
+-- none is found that fails, so all pass
+pub none_fails : {X : Type 0} (p : X → Bool) (xs : List X) (found : Option ℕ) → found ≡ position (λ x. not (p x)) xs → found ≡ None → list_all p xs ≡ true
+none_fails p xs found is none =
+    elim (cases_Bool (nat_lt (prefix_len (λ x. not (not (p x))) xs) (length xs))) [
+      | inl e ↦
+          let h : Some (prefix_len (λ x. not (not (p x))) xs) ≡ None = rw e at (sym is ∙ none) in
+          absurd (cc)
+      | inr e ↦ all_in_prefix p xs (ltb-false _ _ e)
+    ]
+
+whole_prefix : {X : Type 0} (p : X → Bool) (xs : List X) → list_all p xs ≡ true → length xs ≤ prefix_len (λ x. not (not (p x))) xs
+whole_prefix p [] h = omega arith
+whole_prefix p (x ∷ xs) h =
+    let parts = and_parts (p x) (list_all p xs) h in
+    let rest : length xs ≤ prefix_len (λ y. not (not (p y))) xs = whole_prefix p xs parts.1 in
+    rw parts.0 (omega arith)
+
+none_found : {X : Type 0} (p : X → Bool) (xs : List X) → list_all p xs ≡ true → position (λ x. not (p x)) xs ≡ None
+none_found p xs h = cond-false (nat_lt (prefix_len (λ x. not (not (p x))) xs) (length xs)) _ _ (le-ltb _ _ (whole_prefix p xs h))
+
+-- one is found that fails, so not all pass
+pub one_fails : {X : Type 0} (p : X → Bool) (xs : List X) (k : ℕ) → position (λ x. not (p x)) xs ≡ Some k → list_all p xs ≡ false
+one_fails p xs k h =
+    elim (cases_Bool (list_all p xs)) [
+      | inl e ↦ let none = none_found p xs e in absurd (cc)
+      | inr e ↦ e
+    ]

@@ -1,0 +1,12 @@
+use Rattle.std.proofs.Common.{◌≡◌, [], inl, inr, map, ap}
+use Rattle.std.specs.List.{zip}
+use Rattle.std.specs.Slice.Iter.{iter_rest}
+use Rattle.cgl_deck.specs.Extended.{cut_row}
+use Rattle.cgl_deck.proofs.ListLaws.{nothing_left, zip_first_ended, zip_second_ended}
+use Rattle.cgl_deck.proofs.extend.add_cut_rows.Goals as goal
+
+pub returns : goal.returns
+returns c =
+    let ended : zip (iter_rest c.loop-name.name-iterator.a) (iter_rest c.loop-name.name-iterator.b) ≡ [] =
+    elim c.in-None.ensures.steps [ inl w ↦ zip_first_ended _ _ w.1.0 | inr w ↦ zip_second_ended _ _ w.1.0 ] in
+    nothing_left _ _ _ (ap (map cut_row) ended) c.loop-name.invariant

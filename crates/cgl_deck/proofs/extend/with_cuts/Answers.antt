@@ -1,0 +1,28 @@
+use Rattle.std.proofs.Common.{◌≡◌, true, rules}
+use Rattle.cgl_deck.specs.Extended.{extended, is_known, is_decimal, is_within_sizes}
+use Rattle.cgl_deck.proofs.ListLaws.{none_fails}
+use Rattle.cgl_deck.proofs.extend.with_cuts.Goals as goal
+
+pub returns-in-Some-first_not_decimal-clause-known : goal.returns-in-Some-first_not_decimal-clause-known
+returns-in-Some-first_not_decimal-clause-known c k h = none_fails (is_known c.args.model.now) c.args.cuts.now c.first_unknown.result c.first_unknown.ensures c.in_default.is
+
+pub returns-then-not-fits-clause-too_many : goal.returns-then-not-fits-clause-too_many
+returns-then-not-fits-clause-too_many c h = record {
+  known = none_fails (is_known c.args.model.now) c.args.cuts.now c.first_unknown.result c.first_unknown.ensures c.in_default.is;
+  decimal = none_fails is_decimal c.args.cuts.now c.first_not_decimal.result c.first_not_decimal.ensures c.in_default-first_not_decimal.is;
+  large = search rules;
+}
+
+pub extend-requires-clause-known : goal.extend-requires-clause-known
+extend-requires-clause-known c = none_fails (is_known c.args.model.now) c.args.cuts.now c.first_unknown.result c.first_unknown.ensures c.in_default.is
+
+pub extend-requires-clause-decimal : goal.extend-requires-clause-decimal
+extend-requires-clause-decimal c = none_fails is_decimal c.args.cuts.now c.first_not_decimal.result c.first_not_decimal.ensures c.in_default-first_not_decimal.is
+
+pub returns-clause-ok : goal.returns-clause-ok
+unfolding extended
+returns-clause-ok c =
+    let known = none_fails (is_known c.args.model.now) c.args.cuts.now c.first_unknown.result c.first_unknown.ensures c.in_default.is in
+    let decimal = none_fails is_decimal c.args.cuts.now c.first_not_decimal.result c.first_not_decimal.ensures c.in_default-first_not_decimal.is in
+    let fits : is_within_sizes c.args.model.now c.args.cuts.now ≡ true = search rules in
+    rw (known, decimal, fits, c.in-Ok.ensures.model)

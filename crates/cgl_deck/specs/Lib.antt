@@ -1,0 +1,4 @@
+pub mod CutNames
+pub mod Extended
+pub mod DeckText
+pub mod DeckLength

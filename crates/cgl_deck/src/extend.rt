@@ -1,0 +1,321 @@
+ghost use Rattle.std.specs.Prelude.{◌≡◌, ℕ, ◌+◌, ◌<◌, ◌≤◌, ◌^◌, [], ◌∷◌, ◌++◌, Some, is_some, length, map, position, slice_index_or, slice_set, sum_by, not, nat_lt, nat_le, zip, IfOk, IsErrOf, MatchOption, IsSome, IsTrue, OnOk};
+ghost use Rattle.std.specs.List.{list_all};
+ghost use Rattle.cgl_num.specs.Decimal.{decimal_of};
+ghost use Rattle.cgl_model.specs.Rising.{IsRising};
+ghost use Rattle.cgl_model.specs.RowEntries.{onto_entries};
+ghost use Rattle.cgl_deck.specs.Extended.{AreRising, IsTooMany, coefficient_at, cut_entries, cut_row, decimal_or_zero, extended, extended_columns_from, is_decimal, is_known, is_within_sizes, term_count, with_rows};
+
+use crate::names::{copied_name, cut_names};
+use cgl_model::{Column, Entries, Ineq, Model, Name, Row, RowKind, Seq};
+use cgl_num::{Dec, Memory};
+use std::alloc::Global;
+use thiserror::Error;
+
+const MOST_ROWS: usize = 1 << 20;
+
+const MOST_ENTRIES: usize = 1 << 22;
+
+/// Why a model has no extension by cuts: the first cut with an unknown column, the first with a number out of
+/// the limits, too many rows or entries, or want of memory.
+#[derive(Clone, Copy, Debug, PartialEq, Eq, Error)]
+pub enum ExtendError {
+    #[error("cut {cut} names an unknown column")]
+    Unknown { cut: u32 },
+    #[error("cut {cut} has a number out of the limits")]
+    NotDec { cut: u32 },
+    #[error("too many rows or entries")]
+    TooMany,
+    #[error("out of memory")]
+    Memory,
+}
+
+// ---- refusals
+
+fn names_known_columns(model: &Model, cut: &Ineq) -> bool
+    ensures { result ≡ is_known model.now cut.now }
+{
+    let columns = model.cols.as_slice().len();
+    cut.terms
+        .as_slice()
+        .iter()
+        .all(|term| (term.0 as usize) < columns)
+}
+
+fn is_decimal_term(term: &(u32, i128)) -> bool
+    ensures { result ≡ is_some (decimal_of term.now.1) }
+{
+    Dec::whole(term.1).is_some()
+}
+
+fn has_decimals(cut: &Ineq) -> bool
+    ensures { result ≡ is_decimal cut.now }
+{
+    for term in cut.terms.as_slice() {
+        if !is_decimal_term(term) {
+            return false;
+        }
+    }
+    Dec::whole(cut.rhs).is_some()
+}
+
+fn first_unknown(model: &Model, cuts: &[Ineq]) -> Option<usize>
+    ensures { result ≡ position (λ c. not (is_known model.now c)) cuts.now }
+{
+    cuts.iter().position(|cut| !names_known_columns(model, cut))
+}
+
+fn first_not_decimal(cuts: &[Ineq]) -> Option<usize>
+    ensures { result ≡ position (λ c. not (is_decimal c)) cuts.now }
+{
+    cuts.iter().position(|cut| !has_decimals(cut))
+}
+
+/// Whether the cuts have at most this many terms.
+fn terms_fit(cuts: &[Ineq], room: usize) -> bool
+    ensures { result ≡ nat_le (term_count cuts.now) room }
+{
+    let mut left = room;
+    for cut in cuts {
+        let terms = cut.terms.as_slice().len();
+        if left < terms {
+            return false;
+        }
+        left -= terms;
+    }
+    true
+}
+
+/// What the entries of these columns leave of so much room; none where there are more.
+fn room_behind(columns: &[Column], room: usize) -> Option<usize>
+    ensures { let entries = sum_by (λ c. length c.entries) columns.now in
+        MatchOption result (room < entries) (λ left. left + entries ≡ room) }
+{
+    let mut left = room;
+    for column in columns {
+        let entries = column.entries.as_slice().len();
+        if left < entries {
+            return None;
+        }
+        left -= entries;
+    }
+    Some(left)
+}
+
+fn fits(model: &Model, cuts: &[Ineq]) -> bool
+    requires { length cuts.now < 2 ^ 32 }
+    ensures { result ≡ is_within_sizes model.now cuts.now }
+{
+    let Some(left) = room_behind(model.cols.as_slice(), MOST_ENTRIES) else {
+        return false;
+    };
+    model.rows.as_slice().len() + cuts.len() <= MOST_ROWS && terms_fit(cuts, left)
+}
+
+// ---- copies
+
+fn copied_row(alloc: Global, row: &Row) -> Result<Row, Memory>
+    ensures { IfOk result (λ copy. copy ≡ row.now) }
+{
+    Ok(Row {
+        name: copied_name(alloc, row.name.as_slice())?,
+        kind: row.kind,
+        rhs: row.rhs,
+        range: row.range,
+    })
+}
+
+fn add_entries(entries: &mut Entries, more: &[(u32, Dec)]) -> Result<(), Memory>
+    ensures { OnOk result (entries.new ≡ entries.old ++ more.now) }
+{
+    for entry in more {
+        entries.push(*entry)?;
+    }
+    Ok(())
+}
+
+/// A copy of a column with more entries.
+fn longer_column(alloc: Global, column: &Column, more: &[(u32, Dec)]) -> Result<Column, Memory>
+    ensures { IfOk result (λ copy. copy ≡ record column.now { entries = column.now.entries ++ more.now }) }
+{
+    let mut entries = Entries::new(alloc);
+    add_entries(&mut entries, column.entries.as_slice())?;
+    add_entries(&mut entries, more)?;
+    Ok(Column {
+        name: copied_name(alloc, column.name.as_slice())?,
+        integer: column.integer,
+        lo: column.lo,
+        up: column.up,
+        entries,
+    })
+}
+
+// ---- rows
+
+fn decimal(n: i128) -> Dec
+    requires { IsSome (decimal_of n) }
+    ensures { result ≡ decimal_or_zero n }
+{
+    Dec::whole(n).unwrap()
+}
+
+fn add_row_copies(alloc: Global, copies: &mut Seq<Row>, rows: &[Row]) -> Result<(), Memory>
+    ensures { OnOk result (copies.new ≡ copies.old ++ rows.now) }
+{
+    for row in rows {
+        copies.push(copied_row(alloc, row)?)?;
+    }
+    Ok(())
+}
+
+fn row_of_cut(alloc: Global, name: &[u8], cut: &Ineq) -> Result<Row, Memory>
+    requires { IsTrue (is_decimal cut.now) }
+    ensures { IfOk result (λ row. row ≡ cut_row (name.now, cut.now)) }
+{
+    Ok(Row {
+        name: copied_name(alloc, name)?,
+        kind: RowKind::G,
+        rhs: decimal(cut.rhs),
+        range: None,
+    })
+}
+
+fn add_cut_rows(
+    alloc: Global,
+    rows: &mut Seq<Row>,
+    names: &[Name],
+    cuts: &[Ineq],
+) -> Result<(), Memory>
+    requires { IsTrue (list_all is_decimal cuts.now) }
+    ensures { OnOk result (rows.new ≡ rows.old ++ map cut_row (zip names.now cuts.now)) }
+{
+    for (name, cut) in names.iter().zip(cuts) {
+        rows.push(row_of_cut(alloc, name.as_slice(), cut)?)?;
+    }
+    Ok(())
+}
+
+// ---- columns
+
+/// An empty list for each column.
+fn empty_lists(alloc: Global, columns: usize) -> Result<Vec<Entries>, Memory>
+    ensures columns { IfOk result (λ lists. length lists.items ≡ columns) }
+    ensures empty { IfOk result (λ lists. (j : ℕ) → slice_index_or lists.items j [] ≡ []) }
+{
+    let mut lists = Vec::new(alloc);
+    for _ in 0..columns {
+        let Ok(()) = lists.push(Entries::new(alloc)) else {
+            return Err(Memory);
+        };
+    }
+    Ok(lists)
+}
+
+fn add_term(lists: &mut [Entries], row: u32, term: &(u32, i128)) -> Result<(), Memory>
+    requires known { term.now.0 < length lists.old }
+    requires decimal { IsSome (decimal_of term.now.1) }
+    ensures { OnOk result (lists.new ≡ slice_set lists.old term.now.0 (slice_index_or lists.old term.now.0 [] ++ (row, decimal_or_zero term.now.1) ∷ [])) }
+{
+    let number = decimal(term.1);
+    lists[term.0 as usize].push((row, number))
+}
+
+/// Appends the terms of a cut, which has this row, to the lists of their columns.
+fn add_terms(lists: &mut [Entries], row: u32, cut: &Ineq) -> Result<(), Memory>
+    requires known { IsTrue (list_all (λ t. nat_lt t.0 (length lists.old)) cut.now.terms) }
+    requires decimal { IsTrue (is_decimal cut.now) }
+    ensures lists { OnOk result ((j : ℕ) → slice_index_or lists.new j [] ≡ slice_index_or lists.old j [] ++ onto_entries row (coefficient_at j cut.now.terms) []) }
+    ensures rising { IsRising cut.now.terms }
+{
+    for term in cut.terms.as_slice() {
+        add_term(lists, row, term)?;
+    }
+    Ok(())
+}
+
+/// For each column its entries in the rows of the cuts, which are numbered from `first` on.
+fn lists_of_cuts(
+    alloc: Global,
+    model: &Model,
+    first: u32,
+    cuts: &[Ineq],
+) -> Result<Vec<Entries>, Memory>
+    requires known { IsTrue (list_all (is_known model.now) cuts.now) }
+    requires decimal { IsTrue (list_all is_decimal cuts.now) }
+    requires rows { first + length cuts.now ≤ 2 ^ 20 }
+    ensures columns { IfOk result (λ lists. length lists.items ≡ length model.now.cols) }
+    ensures rising { OnOk result (AreRising cuts.now) }
+    ensures entries { IfOk result (λ lists. (j : ℕ) → j < length model.now.cols → slice_index_or lists.items j [] ≡ cut_entries j first cuts.now) }
+{
+    let mut lists = empty_lists(alloc, model.cols.as_slice().len())?;
+    for (k, cut) in cuts.iter().enumerate() {
+        add_terms(&mut lists, first + k as u32, cut)?;
+    }
+    Ok(lists)
+}
+
+fn longer_columns(
+    alloc: Global,
+    model: &Model,
+    first: u32,
+    cuts: &[Ineq],
+) -> Result<Seq<Column>, Memory>
+    requires known { IsTrue (list_all (is_known model.now) cuts.now) }
+    requires decimal { IsTrue (list_all is_decimal cuts.now) }
+    requires rows { first + length cuts.now ≤ 2 ^ 20 }
+    ensures columns { IfOk result (λ columns. columns ≡ extended_columns_from first 0 cuts.now model.now.cols) }
+    ensures rising { OnOk result (AreRising cuts.now) }
+{
+    let lists = lists_of_cuts(alloc, model, first, cuts)?;
+    let mut columns = Seq::new(alloc);
+    for (j, column) in model.cols.as_slice().iter().enumerate() {
+        columns.push(longer_column(alloc, column, lists[j].as_slice())?)?;
+    }
+    Ok(columns)
+}
+
+// ---- all
+
+fn extend(alloc: Global, model: &Model, cuts: &[Ineq]) -> Result<Model, Memory>
+    requires known { IsTrue (list_all (is_known model.now) cuts.now) }
+    requires decimal { IsTrue (list_all is_decimal cuts.now) }
+    requires sizes { IsTrue (is_within_sizes model.now cuts.now) }
+    ensures model { IfOk result (λ n. n ≡ with_rows model.now cuts.now) }
+    ensures rising { OnOk result (AreRising cuts.now) }
+{
+    let first = model.rows.as_slice().len() as u32;
+    let names = cut_names(alloc, model, cuts.len() as u32)?;
+    let mut rows = Seq::new(alloc);
+    add_row_copies(alloc, &mut rows, model.rows.as_slice())?;
+    add_cut_rows(alloc, &mut rows, names.as_slice(), cuts)?;
+    Ok(Model {
+        name: copied_name(alloc, model.name.as_slice())?,
+        maximise: model.maximise,
+        rows,
+        cols: longer_columns(alloc, model, first, cuts)?,
+    })
+}
+
+/// The model with each cut as a G row behind its rows, named by the first of CUT1, CUT2, .. that are no row's name.
+pub fn with_cuts(alloc: Global, model: &Model, cuts: &[Ineq]) -> Result<Model, ExtendError>
+    requires { length cuts.now < 2 ^ 32 }
+    ensures ok { IfOk result (λ n. extended model.now cuts.now ≡ Some n) }
+    ensures rising { OnOk result (AreRising cuts.now) }
+    ensures unknown { (k : ℕ) → IsErrOf result (ExtendError.Unknown k) → position (λ c. not (is_known model.now c)) cuts.now ≡ Some k }
+    ensures known { (k : ℕ) → IsErrOf result (ExtendError.NotDec k) → IsTrue (list_all (is_known model.now) cuts.now) }
+    ensures not_decimal { (k : ℕ) → IsErrOf result (ExtendError.NotDec k) → position (λ c. not (is_decimal c)) cuts.now ≡ Some k }
+    ensures too_many { IsErrOf result ExtendError.TooMany → IsTooMany model.now cuts.now }
+{
+    if let Some(cut) = first_unknown(model, cuts) {
+        return Err(ExtendError::Unknown { cut: cut as u32 });
+    }
+    if let Some(cut) = first_not_decimal(cuts) {
+        return Err(ExtendError::NotDec { cut: cut as u32 });
+    }
+    if !fits(model, cuts) {
+        return Err(ExtendError::TooMany);
+    }
+    let Ok(extended) = extend(alloc, model, cuts) else {
+        return Err(ExtendError::Memory);
+    };
+    Ok(extended)
+}

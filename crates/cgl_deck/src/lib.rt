@@ -1,0 +1,16 @@
+//! The canonical text of a model, and models with cuts as further rows.
+#![tactic(auto)]
+
+mod extend;
+mod laws;
+mod length;
+mod names;
+#[cfg(test)]
+mod tests;
+mod write;
+
+pub use extend::{ExtendError, with_cuts};
+pub use laws::{extension_laws, refusal_laws};
+pub use length::deck_len;
+pub use names::cut_names;
+pub use write::deck_text;

@@ -1,0 +1,67 @@
+ghost use Rattle.std.specs.Prelude.{◌≡◌, [], ◌∷◌, ◌++◌, filter, map, IfOk, OnOk};
+ghost use Rattle.cgl_text.specs.Text.{is_one_of};
+ghost use Rattle.cgl_deck.specs.CutNames.{cut_name, cut_names, is_unused};
+
+use cgl_model::{Model, Name, Row, Seq};
+use cgl_num::Memory;
+use itoa::Buffer;
+use std::alloc::Global;
+
+/// A copy of a name.
+pub(crate) fn copied_name(alloc: Global, name: &[u8]) -> Result<Name, Memory>
+    ensures { IfOk result (λ copy. copy ≡ name.now) }
+{
+    let Ok(bytes) = Vec::from_slice(alloc, name) else {
+        return Err(Memory);
+    };
+    Ok(Seq::from_vec(bytes))
+}
+
+fn cut_name(alloc: Global, number: u64) -> Result<Name, Memory>
+    ensures { IfOk result (λ name. name ≡ cut_name number) }
+{
+    let Ok(mut bytes) = Vec::from_slice(alloc, b"CUT") else {
+        return Err(Memory);
+    };
+    let mut buffer = Buffer::new();
+    let Ok(()) = bytes.extend_from_slice(buffer.format(number).as_bytes()) else {
+        return Err(Memory);
+    };
+    Ok(Seq::from_vec(bytes))
+}
+
+fn is_row_name(rows: &[Row], name: &[u8]) -> bool
+    ensures { result ≡ is_one_of (map (λ r. r.name) rows.now) name.now }
+{
+    for row in rows {
+        if name == row.name.as_slice() {
+            return true;
+        }
+    }
+    false
+}
+
+fn add_unused(names: &mut Seq<Name>, model: &Model, name: Name) -> Result<(), Memory>
+    ensures { OnOk result (names.new ≡ names.old ++ filter (is_unused model.now) (name ∷ [])) }
+{
+    if is_row_name(model.rows.as_slice(), name.as_slice()) {
+        return Ok(());
+    }
+    names.push(name)
+}
+
+/// The first n of CUT1, CUT2, .. that are no row's name.
+pub fn cut_names(alloc: Global, model: &Model, n: u32) -> Result<Seq<Name>, Memory>
+    ensures { IfOk result (λ names. names ≡ cut_names model.now n) }
+{
+    let mut names = Seq::new(alloc);
+    let last = model.rows.as_slice().len() as u64 + n as u64;
+    for number in 0..last {
+        if names.as_slice().len() == n as usize {
+            break;
+        }
+        let name = cut_name(alloc, number + 1)?;
+        add_unused(&mut names, model, name)?;
+    }
+    Ok(names)
+}

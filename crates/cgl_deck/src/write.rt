@@ -1,0 +1,313 @@
+ghost use Rattle.std.specs.Prelude.{◌≡◌, List, ℕ, [], ◌∷◌, ◌++◌, ◌+◌, codes, false, flat_map, length, map, pos, int_lt, IfOk, OnOk};
+ghost use Rattle.cgl_num.specs.Decimal.{decimal_text};
+ghost use Rattle.cgl_deck.specs.DeckText.{both_text, bound_line, bound_text, column_text, columns_text, data_line, deck_text, is_same_decimal, is_zero_decimal, kind_word, lower_text, marker_text, name_text, range_text, rhs_text, row_name, row_text, section_text, sense_text};
+
+use cgl_model::{Column, Model, Row, RowKind};
+use cgl_num::{Dec, Memory};
+use std::alloc::Global;
+
+// ---- numbers
+
+pub(crate) fn is_zero(number: Dec) -> bool
+    ensures { result ≡ is_zero_decimal number }
+{
+    number.m() == 0
+}
+
+pub(crate) fn is_negative(number: Dec) -> bool
+    ensures { result ≡ int_lt number.m (pos 0) }
+{
+    number.m() < 0
+}
+
+pub(crate) fn is_same(a: Dec, b: Dec) -> bool
+    ensures { result ≡ is_same_decimal a b }
+{
+    a.m() == b.m() && a.e() == b.e()
+}
+
+// ---- lines
+
+fn add(text: &mut Vec<u8>, bytes: &[u8]) -> Result<(), Memory>
+    ensures { OnOk result (text.new.items ≡ text.old.items ++ bytes.now) }
+{
+    let Ok(()) = text.extend_from_slice(bytes) else {
+        return Err(Memory);
+    };
+    Ok(())
+}
+
+/// A line with each word behind a space.
+fn add_line(text: &mut Vec<u8>, words: &[&[u8]]) -> Result<(), Memory>
+    ensures { OnOk result (text.new.items ≡ text.old.items ++ data_line (map (λ word. word.now) words.now)) }
+{
+    for word in words {
+        add(text, b" ")?;
+        add(text, word)?;
+    }
+    add(text, b"\n")
+}
+
+/// A line that ends with a number.
+fn add_number_line(
+    text: &mut Vec<u8>,
+    first: &[u8],
+    second: &[u8],
+    number: Dec,
+) -> Result<(), Memory>
+    ensures { OnOk result (text.new.items ≡ text.old.items ++ data_line (first.now ∷ second.now ∷ decimal_text number ∷ [])) }
+{
+    let mut digits = [0; 48];
+    let len = number.digits(&mut digits);
+    add_line(text, &[first, second, &digits[..len]])
+}
+
+// ---- name and sense
+
+fn add_name(text: &mut Vec<u8>, name: &[u8]) -> Result<(), Memory>
+    ensures { OnOk result (text.new.items ≡ text.old.items ++ name_text name.now) }
+{
+    if name.is_empty() {
+        return add(text, b"NAME\n");
+    }
+    add(text, b"NAME ")?;
+    add(text, name)?;
+    add(text, b"\n")
+}
+
+fn add_sense(text: &mut Vec<u8>, maximise: bool) -> Result<(), Memory>
+    ensures { OnOk result (text.new.items ≡ text.old.items ++ sense_text maximise) }
+{
+    if maximise {
+        add(text, b"OBJSENSE\n MAX\n")?;
+    }
+    Ok(())
+}
+
+// ---- rows
+
+pub(crate) fn kind_letter(kind: RowKind) -> u8
+    ensures { result ∷ [] ≡ kind_word kind }
+{
+    match kind {
+        RowKind::N => b'N',
+        RowKind::L => b'L',
+        RowKind::G => b'G',
+        RowKind::E => b'E',
+    }
+}
+
+fn add_row(text: &mut Vec<u8>, row: &Row) -> Result<(), Memory>
+    ensures { OnOk result (text.new.items ≡ text.old.items ++ row_text row.now) }
+{
+    let kind = [kind_letter(row.kind)];
+    add_line(text, &[&kind, row.name.as_slice()])
+}
+
+fn add_rows(text: &mut Vec<u8>, rows: &[Row]) -> Result<(), Memory>
+    ensures { OnOk result (text.new.items ≡ text.old.items ++ flat_map row_text rows.now) }
+{
+    for row in rows {
+        add_row(text, row)?;
+    }
+    Ok(())
+}
+
+// ---- columns
+
+/// An empty name where there is no such row.
+pub(crate) fn name_of_row(rows: &[Row], row: u32) -> &[u8]
+    ensures { result.now ≡ row_name rows.now row }
+{
+    match rows.get(row as usize) {
+        Some(found) => found.name.as_slice(),
+        None => &[],
+    }
+}
+
+fn add_column(text: &mut Vec<u8>, rows: &[Row], column: &Column) -> Result<(), Memory>
+    ensures { OnOk result (text.new.items ≡ text.old.items ++ column_text rows.now column.now) }
+{
+    for entry in column.entries.as_slice() {
+        add_number_line(
+            text,
+            column.name.as_slice(),
+            name_of_row(rows, entry.0),
+            entry.1,
+        )?;
+    }
+    Ok(())
+}
+
+fn add_marker(text: &mut Vec<u8>, before: bool, integer: bool) -> Result<(), Memory>
+    ensures { OnOk result (text.new.items ≡ text.old.items ++ marker_text before integer) }
+{
+    match (before, integer) {
+        (false, true) => add(text, b" MARKER 'MARKER' 'INTORG'\n"),
+        (true, false) => add(text, b" MARKER 'MARKER' 'INTEND'\n"),
+        (true, true) | (false, false) => Ok(()),
+    }
+}
+
+fn add_columns(text: &mut Vec<u8>, rows: &[Row], columns: &[Column]) -> Result<(), Memory>
+    ensures { OnOk result (text.new.items ≡ text.old.items ++ columns_text rows.now false columns.now) }
+{
+    let mut before = false;
+    for column in columns {
+        add_marker(text, before, column.integer)?;
+        add_column(text, rows, column)?;
+        before = column.integer;
+    }
+    add_marker(text, before, false)
+}
+
+// ---- sections with no header where they have no line
+
+/// Takes the header back that no line follows.
+fn end_section(text: &mut Vec<u8>, header: usize, start: usize)
+    ensures { (before head lines : List ℕ) → text.old.items ≡ before ++ head ++ lines → header ≡ length before
+        → start ≡ length before + length head → text.new.items ≡ before ++ section_text head lines }
+{
+    if text.len() == start {
+        text.truncate(header);
+    }
+}
+
+fn add_rhs(text: &mut Vec<u8>, row: &Row) -> Result<(), Memory>
+    ensures { OnOk result (text.new.items ≡ text.old.items ++ rhs_text row.now) }
+{
+    if is_zero(row.rhs) {
+        return Ok(());
+    }
+    add_number_line(text, b"RHS", row.name.as_slice(), row.rhs)
+}
+
+fn add_right_sides(text: &mut Vec<u8>, rows: &[Row]) -> Result<(), Memory>
+    ensures { OnOk result (text.new.items ≡ text.old.items ++ section_text (codes "RHS\n") (flat_map rhs_text rows.now)) }
+{
+    let header = text.len();
+    add(text, b"RHS\n")?;
+    let start = text.len();
+    for row in rows {
+        add_rhs(text, row)?;
+    }
+    end_section(text, header, start);
+    Ok(())
+}
+
+fn add_range(text: &mut Vec<u8>, row: &Row) -> Result<(), Memory>
+    ensures { OnOk result (text.new.items ≡ text.old.items ++ range_text row.now) }
+{
+    match row.range {
+        Some(range) => add_number_line(text, b"RNG", row.name.as_slice(), range),
+        None => Ok(()),
+    }
+}
+
+fn add_ranges(text: &mut Vec<u8>, rows: &[Row]) -> Result<(), Memory>
+    ensures { OnOk result (text.new.items ≡ text.old.items ++ section_text (codes "RANGES\n") (flat_map range_text rows.now)) }
+{
+    let header = text.len();
+    add(text, b"RANGES\n")?;
+    let start = text.len();
+    for row in rows {
+        add_range(text, row)?;
+    }
+    end_section(text, header, start);
+    Ok(())
+}
+
+// ---- bounds
+
+/// A bound's record without a number.
+fn add_mark(text: &mut Vec<u8>, kind: &[u8], name: &[u8]) -> Result<(), Memory>
+    ensures { OnOk result (text.new.items ≡ text.old.items ++ bound_line kind.now name.now []) }
+{
+    add_line(text, &[kind, b"BND", name])
+}
+
+fn add_value(text: &mut Vec<u8>, kind: &[u8], name: &[u8], value: Dec) -> Result<(), Memory>
+    ensures { OnOk result (text.new.items ≡ text.old.items ++ bound_line kind.now name.now (decimal_text value ∷ [])) }
+{
+    let mut digits = [0; 48];
+    let len = value.digits(&mut digits);
+    add_line(text, &[kind, b"BND", name, &digits[..len]])
+}
+
+fn add_both(text: &mut Vec<u8>, name: &[u8], lo: Dec, up: Dec) -> Result<(), Memory>
+    ensures { OnOk result (text.new.items ≡ text.old.items ++ both_text name.now lo up) }
+{
+    if !is_zero(lo) || is_negative(up) {
+        add_value(text, b"LO", name, lo)?;
+    }
+    add_value(text, b"UP", name, up)
+}
+
+fn add_lower(text: &mut Vec<u8>, name: &[u8], integer: bool, lo: Dec) -> Result<(), Memory>
+    ensures { OnOk result (text.new.items ≡ text.old.items ++ lower_text name.now integer lo) }
+{
+    if !is_zero(lo) {
+        return add_value(text, b"LO", name, lo);
+    }
+    if integer {
+        return add_mark(text, b"PL", name);
+    }
+    Ok(())
+}
+
+fn add_bound(text: &mut Vec<u8>, column: &Column) -> Result<(), Memory>
+    ensures { OnOk result (text.new.items ≡ text.old.items ++ bound_text column.now) }
+{
+    let name = column.name.as_slice();
+    match (column.lo, column.up) {
+        (None, None) => add_mark(text, b"FR", name),
+        (None, Some(up)) => {
+            add_mark(text, b"MI", name)?;
+            add_value(text, b"UP", name, up)
+        }
+        (Some(lo), None) => add_lower(text, name, column.integer, lo),
+        (Some(lo), Some(up)) => {
+            if is_same(lo, up) {
+                add_value(text, b"FX", name, lo)
+            } else {
+                add_both(text, name, lo, up)
+            }
+        }
+    }
+}
+
+fn add_bounds(text: &mut Vec<u8>, columns: &[Column]) -> Result<(), Memory>
+    ensures { OnOk result (text.new.items ≡ text.old.items ++ section_text (codes "BOUNDS\n") (flat_map bound_text columns.now)) }
+{
+    let header = text.len();
+    add(text, b"BOUNDS\n")?;
+    let start = text.len();
+    for column in columns {
+        add_bound(text, column)?;
+    }
+    end_section(text, header, start);
+    Ok(())
+}
+
+// ---- all
+
+/// The canonical text of a model. A row number that no row has is written as an empty name.
+#[tactic(auto, unfolding(crate::specs::DeckText::deck_text))]
+pub fn deck_text(alloc: Global, model: &Model) -> Result<Vec<u8>, Memory>
+    ensures { IfOk result (λ text. text.items ≡ deck_text model.now) }
+{
+    let mut text = Vec::new(alloc);
+    let rows = model.rows.as_slice();
+    let columns = model.cols.as_slice();
+    add_name(&mut text, model.name.as_slice())?;
+    add_sense(&mut text, model.maximise)?;
+    add(&mut text, b"ROWS\n")?;
+    add_rows(&mut text, rows)?;
+    add(&mut text, b"COLUMNS\n")?;
+    add_columns(&mut text, rows, columns)?;
+    add_right_sides(&mut text, rows)?;
+    add_ranges(&mut text, rows)?;
+    add_bounds(&mut text, columns)?;
+    add(&mut text, b"ENDATA\n")?;
+    Ok(text)
+}
