@@ -1,0 +1,2 @@
+mod KnownText
+mod ProofTextLaws
