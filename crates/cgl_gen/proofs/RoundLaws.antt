@@ -1,0 +1,162 @@
+-- Laws of the terms of a rounded inequality.
+use Rattle.std.proofs.Common.{◌≡◌, ℕ, zero, suc, ◌-◌, ◌<◌, ◌≤◌, List, [], ◌∷◌, ◌++◌, map, length, take, drop, get_or, refl, sym, ap, ◌∙◌, subst, arith, Bool, true, false, not, ◌||◌, cond, ◌==◌}
+use Rattle.std.proofs.lemmas.Bool.{true≢false, false≢true}
+use Rattle.std.specs.Prelude.{ℤ, pos, negsuc, unsigned_abs, int_div, ◌<ℤ◌, ◌*ℤ◌, ◌^◌}
+use Rattle.std.proofs.lemmas.Int.{ints}
+use Rattle.std.specs.List.{All, list_all}
+use Rattle.std.specs.Int.{◌∣◌, w128}
+use Rattle.std.specs.Int.RustNames.{FitsSigned}
+use Rattle.std.proofs.lemmas.List.{drop_all}
+use Rattle.std.proofs.lemmas.List.Elements.{All-head, All-tail}
+use Rattle.cgl_num.proofs.GcdLaws.{gcd_of_divides, gcd_zero}
+use Rattle.cgl_num.proofs.FractionLaws.{exact_quotient, abs_quotient}
+use Rattle.cgl_model.specs.declared.linear.Ineq.{Ineq}
+use Rattle.std.proofs.Math.Nat.{div-le_self}
+use Rattle.std.proofs.Math.IntN.{zero-*ℤ}
+use Rattle.std.proofs.Math.Seq.{drop-cons}
+use Rattle.cgl_num.specs.Gcd.{gcd, gcd_of}
+use Rattle.cgl_model.specs.Inequality.{Term, AreColumnsBelow}
+use Rattle.cgl_model.specs.Rising.{IsAboveAll, IsRising, IsCoefficient}
+use Rattle.cgl_model.specs.declared.places.Place.{Place}
+use Rattle.cgl_derive.specs.declared.step.Ref.TheVariants as by
+use Rattle.cgl_derive.specs.declared.step.Round.{Round}
+use Rattle.cgl_derive.specs.declared.step.Step.{Step}
+use Rattle.cgl_derive.specs.declared.step.Step.TheVariants as variant
+use Rattle.cgl_derive.specs.declared.step.Step.TheVariants.{rolls-Round}
+use Rattle.cgl_derive.specs.declared.step.Derivation.{Derivation, roll-Derivation}
+use Rattle.cgl_derive.specs.declared.answer.Answer.{Answer}
+use Rattle.cgl_derive.specs.declared.answer.Answer.TheVariants.{Nothing}
+use Rattle.cgl_derive.specs.Derives.{is_integer}
+use Rattle.cgl_model.specs.declared.mip.Model.{Model}
+use Rattle.cgl_model.specs.declared.places.Side.{Side}
+use Rattle.cgl_model.specs.Point.{Point}
+use Rattle.cgl_gen.specs.RoundMember.{divisor_of, round_from, round_member, divides, answer_with, rounded}
+
+-- the column of a term is above those before it
+pub above_taken : (terms : List Term) (i : ℕ) (d : Term) → IsRising terms → i < length terms → IsAboveAll (take i terms) (get_or terms i d).0
+above_taken [] i d r h = absurd (omega arith)
+above_taken (u ∷ terms) zero d r h = tt
+above_taken (u ∷ []) (suc i) d r h = absurd (omega arith)
+above_taken (u ∷ v ∷ terms) (suc zero) d r h = r.1
+above_taken (u ∷ v ∷ terms) (suc (suc i)) d r h = above_taken (v ∷ terms) (suc i) d r.2 (omega arith)
+
+pub coefficient_at : (terms : List Term) (i : ℕ) (d : Term) → IsRising terms → i < length terms → IsCoefficient (get_or terms i d).1
+coefficient_at [] i d r h = absurd (omega arith)
+coefficient_at (u ∷ []) zero d r h = r
+coefficient_at (u ∷ []) (suc i) d r h = absurd (omega arith)
+coefficient_at (u ∷ v ∷ terms) zero d r h = r.0
+coefficient_at (u ∷ v ∷ terms) (suc i) d r h = coefficient_at (v ∷ terms) i d r.2 (omega arith)
+
+-- other coefficients under the same columns
+pub above_map : (f : Term → Term) → ((t : Term) → (f t).0 ≡ t.0) → (terms : List Term) (j : ℕ) → IsAboveAll terms j → IsAboveAll (map f terms) j
+above_map f same [] j a = tt
+above_map f same (t ∷ []) j a = subst (λ (c : ℕ). c < j) (sym (same t)) a
+above_map f same (t ∷ u ∷ terms) j a = above_map f same (u ∷ terms) j a
+
+pub divisor_cons : (t : Term) (terms : List Term) → divisor_of (t ∷ terms) ≡ gcd (unsigned_abs t.1) (divisor_of terms)
+unfolding gcd_of
+divisor_cons t terms = refl
+
+pub divisor_nil : divisor_of [] ≡ 0
+unfolding gcd_of
+divisor_nil = refl
+
+pub divisor_end : (terms : List Term) → pos 0 ≡ pos (divisor_of (drop (length terms) terms))
+divisor_end terms = ap pos (sym (ap divisor_of (drop_all (length terms) terms (omega arith)) ∙ divisor_nil))
+
+-- one term more, from the end
+pub divisor_step : (terms : List Term) (i : ℕ) (d : Term) → 0 < i → i ≤ length terms → divisor_of (drop (i - 1) terms) ≡ gcd (unsigned_abs (get_or terms (i - 1) d).1) (divisor_of (drop i terms))
+divisor_step terms zero d p h = absurd (omega arith)
+divisor_step terms (suc i) d p h =
+    let e : suc i - 1 ≡ i = omega arith in
+    rw e (ap divisor_of (drop-cons terms i d (omega arith)) ∙ divisor_cons (get_or terms i d) (drop (suc i) terms))
+
+all_at : {A : Type 0} (P : ℤ → Type 0) (f : A → ℤ) (xs : List A) (i : ℕ) (d : A) → All P (map f xs) → i < length xs → P (f (get_or xs i d))
+all_at P f [] i d all h = absurd (omega arith)
+all_at P f (x ∷ xs) zero d all h = All-head P (f x) (map f xs) all
+all_at P f (x ∷ xs) (suc i) d all h = all_at P f xs i d (All-tail P (f x) (map f xs) all) (omega arith)
+
+pub divisor_at : (terms : List Term) (i : ℕ) (d : Term) → i < length terms → divisor_of terms ∣ unsigned_abs (get_or terms i d).1
+divisor_at terms i d h = all_at (λ z. divisor_of terms ∣ unsigned_abs z) (λ t. t.1) terms i d (gcd_of_divides (map (λ t. t.1) terms)) h
+
+pub quotient_coefficient : (a : ℤ) (g : ℕ) → IsCoefficient a → g ∣ unsigned_abs a → IsCoefficient (int_div a (pos g))
+quotient_coefficient a g c d = record {
+  not_zero = (λ e. c.not_zero (sym (exact_quotient a g d) ∙ ap (λ z. z *ℤ pos g) e ∙ zero-*ℤ (pos g)));
+  narrow = omega (arith, c.narrow, abs_quotient a g, div-le_self (unsigned_abs a) g);
+}
+
+pub quotient_at : (terms : List Term) (i : ℕ) (d : Term) (g : ℤ) → IsRising terms → i < length terms → g ≡ pos (divisor_of terms) → IsCoefficient (int_div (get_or terms i d).1 g)
+quotient_at terms i d g r h e = subst (λ (z : ℤ). IsCoefficient (int_div (get_or terms i d).1 z)) (sym e) (quotient_coefficient (get_or terms i d).1 (divisor_of terms) (coefficient_at terms i d r h) (divisor_at terms i d h))
+
+pub narrow_fits : (z : ℤ) → unsigned_abs z < 2 ^ 127 → FitsSigned w128 z
+narrow_fits (pos n) h = record { sfits = h }
+narrow_fits (negsuc n) h = record { sfits = omega arith }
+
+abs_zero : (z : ℤ) → unsigned_abs z ≡ 0 → z ≡ pos 0
+abs_zero (pos n) e = ap pos e
+abs_zero (negsuc n) e = absurd (omega arith)
+
+above_zero : (n : ℕ) → (n ≡ 0 → ⊥) → 0 < n
+above_zero zero h = absurd (h refl)
+above_zero (suc n) h = omega arith
+
+pub ineq_is : (terms terms' : List Term) (rhs rhs' : ℤ) → terms ≡ terms' → rhs ≡ rhs' → ◌≡◌ {A = Ineq} (record { terms = terms; rhs = rhs }) (record { terms = terms'; rhs = rhs' })
+ineq_is terms terms' rhs rhs' e f = cc
+
+pub round_from_is : (place : Place) (g h : ℤ) (c : Ineq) (none steps : List Step) → none ≡ [] → h ≡ g → steps ≡ none ++ (variant.Round (record { from = by.Side place; g = h; claim = c }) ∷ []) → roll-Derivation (record { steps = steps }) ≡ round_from place g c
+unfolding round_from
+round_from_is place g h c none steps en eg es =
+    let D : List Step → Derivation = λ z. roll-Derivation (record { steps = z }) in
+    let R : ℤ → Round = λ z. record { from = by.Side place; g = z; claim = c } in
+    ap D (es ∙ ap (λ z. z ++ (variant.Round (R h) ∷ [])) en ∙ ap (λ z. variant.Round (R z) ∷ []) eg ∙ ap (λ z. z ∷ []) (sym (rolls-Round (R g))))
+
+-- ---- the member of a side
+
+first_holds : (a b c : Bool) (n z : Answer) → a ≡ true → n ≡ cond (a || not b || c) n z
+first_holds true b c n z e = refl
+first_holds false b c n z e = absurd (false≢true e)
+
+second_fails : (a b c : Bool) (n z : Answer) → b ≡ false → n ≡ cond (a || not b || c) n z
+second_fails true b c n z e = refl
+second_fails false false c n z e = refl
+second_fails false true c n z e = absurd (true≢false e)
+
+third_holds : (a b c : Bool) (n z : Answer) → c ≡ true → n ≡ cond (a || not b || c) n z
+third_holds true b c n z e = refl
+third_holds false false c n z e = refl
+third_holds false true true n z e = refl
+third_holds false true false n z e = absurd (false≢true e)
+
+none_holds : (a b c : Bool) (n z : Answer) → a ≡ false → b ≡ true → c ≡ false → z ≡ cond (a || not b || c) n z
+none_holds true b c n z e f g = absurd (true≢false e)
+none_holds false false c n z e f g = absurd (false≢true f)
+none_holds false true true n z e f g = absurd (true≢false g)
+none_holds false true false n z e f g = refl
+
+pub idle_empty : (m : Model) (x : Point) (side : Side) → (length side.ineq.terms == 0) ≡ true → Nothing ≡ round_member m x side
+unfolding round_member
+idle_empty m x side e = first_holds _ _ _ Nothing _ e
+
+pub idle_column : (m : Model) (x : Point) (side : Side) → list_all (λ t. is_integer m t.0) side.ineq.terms ≡ false → Nothing ≡ round_member m x side
+unfolding round_member
+idle_column m x side e = second_fails (length side.ineq.terms == 0) _ _ Nothing _ e
+
+pub idle_divided : (m : Model) (x : Point) (side : Side) → divides (divisor_of side.ineq.terms) side.ineq.rhs ≡ true → Nothing ≡ round_member m x side
+unfolding round_member
+idle_divided m x side e = third_holds (length side.ineq.terms == 0) (list_all (λ t. is_integer m t.0) side.ineq.terms) _ Nothing _ e
+
+pub member_is : (m : Model) (x : Point) (side : Side) → (length side.ineq.terms == 0) ≡ false → list_all (λ t. is_integer m t.0) side.ineq.terms ≡ true → divides (divisor_of side.ineq.terms) side.ineq.rhs ≡ false
+    → answer_with side x (pos (divisor_of side.ineq.terms)) (rounded (pos (divisor_of side.ineq.terms)) side.ineq) ≡ round_member m x side
+unfolding round_member
+member_is m x side e f g = none_holds _ _ _ Nothing _ e f g
+
+pub divisor_above : (terms : List Term) → IsRising terms → (length terms == 0) ≡ false → pos 0 <ℤ pos (divisor_of terms)
+divisor_above [] r e = absurd (true≢false e)
+divisor_above (t ∷ terms) r e =
+    let c = coefficient_at (t ∷ terms) 0 t r (omega arith) in
+    let some : 0 < divisor_of (t ∷ terms) = above_zero (divisor_of (t ∷ terms)) (λ z. c.not_zero (abs_zero t.1 (gcd_zero (unsigned_abs t.1) (divisor_of terms) (sym (divisor_cons t terms) ∙ z)).0)) in
+    omega (arith, ints, some)
+
+pub columns_map : (n : ℕ) (f : Term → Term) → ((t : Term) → (f t).0 ≡ t.0) → (terms : List Term) → AreColumnsBelow n terms → AreColumnsBelow n (map f terms)
+columns_map n f same [] a = tt
+columns_map n f same (t ∷ terms) a = (subst (λ (c : ℕ). c < n) (sym (same t)) a.0, columns_map n f same terms a.1)

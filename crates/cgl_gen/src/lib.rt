@@ -1,0 +1,11 @@
+//! Generators of cuts.
+#![tactic(auto)]
+
+mod column;
+mod cut;
+mod laws;
+mod rounder;
+mod rounding;
+
+pub use laws::rounding as rounding_laws;
+pub use rounder::Rounder;

@@ -1,0 +1,67 @@
+ghost use Rattle.std.specs.Prelude.{◌≡◌, ℕ, length, IfOk};
+ghost use Rattle.cgl_model.specs.Inequality.{AreColumnsBelow};
+ghost use Rattle.cgl_gen.specs.RoundMember.{answer_with, round_member};
+
+use crate::column::are_integer;
+use crate::cut::{copied, is_wide};
+use crate::rounding::{divides, divisor_of, rounded, rounding};
+use cgl_derive::{Answer, Candidate};
+use cgl_model::{Ineq, Model, Point, Side};
+use cgl_num::Memory;
+use std::alloc::Global;
+
+/// Simple rounding: divides a side over integer columns by the gcd of its coefficients, and rounds its right side up.
+#[derive(Clone, Copy, Debug, PartialEq, Eq)]
+pub struct Rounder;
+
+impl Rounder {
+    /// What it says of a side of the model at a point. `Wide` is for a number of the cut that reaches 10^24, or for a
+    /// violation that does not fit.
+    pub fn give(alloc: Global, model: &Model, point: &Point, side: &Side) -> Result<Answer, Memory>
+        requires columns { AreColumnsBelow (length point.now.p) side.now.ineq.terms }
+        ensures { IfOk result (λ answer. answer ≡ round_member model.now point.now side.now) }
+    {
+        let terms = side.ineq.terms.as_slice();
+        if terms.is_empty() {
+            return Ok(Answer::Nothing);
+        }
+        if !are_integer(model, terms) {
+            return Ok(Answer::Nothing);
+        }
+        let divisor = divisor_of(&side.ineq);
+        if divides(divisor, side.ineq.rhs) {
+            return Ok(Answer::Nothing);
+        }
+        let cut = rounded(alloc, &side.ineq, divisor)?;
+        answer(alloc, point, side, divisor, cut)
+    }
+}
+
+/// The answer with the cut that the divisor gives.
+fn answer(
+    alloc: Global,
+    point: &Point,
+    side: &Side,
+    divisor: i128,
+    cut: Ineq,
+) -> Result<Answer, Memory>
+    requires columns { AreColumnsBelow (length point.now.p) cut.terms }
+    ensures { IfOk result (λ answer. answer ≡ answer_with side.now point.now divisor cut) }
+{
+    if is_wide(&cut) {
+        return Ok(Answer::Wide);
+    }
+    let Ok(violation) = cut.violation(point) else {
+        return Ok(Answer::Wide);
+    };
+    if violation.num() <= 0 {
+        return Ok(Answer::Nothing);
+    }
+    let claim = copied(alloc, &cut)?;
+    let derivation = rounding(alloc, side.place, divisor, claim)?;
+    Ok(Answer::Cut(Candidate {
+        cut,
+        derivation,
+        violation,
+    }))
+}

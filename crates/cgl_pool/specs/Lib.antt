@@ -1,0 +1,3 @@
+pub mod InequalityOrder
+pub mod Listed
+pub mod Offered

@@ -1,0 +1,43 @@
+ghost use Rattle.std.specs.Prelude.{◌≡◌, ◌∷◌, OnOk, IfOk, IfErr};
+ghost use Rattle.cgl_pool.specs.Offered.{IsFree, IsTaken, offered};
+
+use crate::Kept;
+use crate::compare::{compare, is_key_less};
+use cgl_model::Ineq;
+use cgl_num::Memory;
+use std::cmp::Ordering;
+
+/// Where the inequality stands in the list, or else where it may be put in.
+fn place_of(listed: &[Kept], cut: &Ineq) -> Result<usize, usize>
+    ensures taken { IfOk result (λ at. IsTaken cut.now listed.now at) }
+    ensures free { IfErr result (λ at. IsFree cut.now listed.now at) }
+{
+    for (at, other) in listed.iter().enumerate() {
+        match compare(cut, &other.candidate.cut) {
+            Ordering::Less => return Err(at),
+            Ordering::Equal => return Ok(at),
+            Ordering::Greater => {}
+        }
+    }
+    Err(listed.len())
+}
+
+/// Puts a cut in its place; of two with the same inequality the one with the lesser key stays.
+pub fn offer(listed: &mut Vec<Kept>, kept: Kept) -> Result<(), Memory>
+    ensures { OnOk result (listed.new.items ≡ offered kept listed.old.items) }
+{
+    match place_of(listed, &kept.candidate.cut) {
+        Ok(at) => {
+            if is_key_less(kept.key, listed[at].key) {
+                listed[at] = kept;
+            }
+            Ok(())
+        }
+        Err(at) => {
+            let Ok(()) = listed.insert(at, kept) else {
+                return Err(Memory);
+            };
+            Ok(())
+        }
+    }
+}
