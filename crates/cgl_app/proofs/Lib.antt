@@ -1,0 +1,16 @@
+pub mod SayLaws
+pub mod RanLaws
+pub mod WordLaws
+pub mod StepLaws
+pub mod ReadLaws
+pub mod TextLaws
+pub mod AnswerLaws
+pub mod ExtensionLaws
+pub mod CutStepLaws
+pub mod DoneLaws
+pub mod CutLaws
+pub mod CutMeaningLawsRising
+pub mod CutMeaningLawsPlaces
+pub mod CutMeaningLaws
+pub mod CutMeaningLawsExtension
+pub mod ReportLaws

@@ -1,0 +1,5 @@
+use Rattle.cgl_app.proofs.CutLaws.{answered}
+use Rattle.cgl_app.proofs.program.run.Goals as goal
+
+pub returns : goal.returns
+returns g c = answered _ _ _ _ _ _ _ _ c.follow.ensures

@@ -1,0 +1,31 @@
+use Rattle.std.proofs.Common.{arith, ◌∙◌, ◌<◌, ◌≤◌, refl, sym, map, length, List, ℕ, [], Bor}
+use Rattle.std.proofs.Math.ListN.{get_or-map}
+use Rattle.std.proofs.lemmas.List.{length-map}
+use Rattle.cgl_outside.proofs.SinkLaws.{put_empty}
+use Rattle.cgl_app.proofs.SayLaws.{more_said, part_said, all_said}
+use Rattle.cgl_app.proofs.say.say.Goals as goal
+
+pub pieces-init : goal.pieces-init
+pieces-init g c = record { written = sym (put_empty _); faults = refl }
+
+pub returns-in_default : goal.returns-in_default
+returns-in_default g c =
+    let put = c.in_default.ensures in
+    let is = sym (get_or-map (λ (p : Bor (List ℕ)). p.now) c.args.pieces.now c.pieces.piece-index (record { ref_ptr = (0, 0); now = [] })) in
+    let within : c.pieces.piece-index < length (map (λ (p : Bor (List ℕ)). p.now) c.args.pieces.now) = omega (arith, c.pieces-test.true, length-map c.args.pieces.now (λ (p : Bor (List ℕ)). p.now)) in
+    part_said _ _ put.err.0 _ _ _ _ _ _ within is c.pieces.invariant.written put.err.1 (grind (arith, put.faults.failed, c.pieces.invariant.faults))
+
+pub pieces-preserved : goal.pieces-preserved
+pieces-preserved g c =
+    let put = c.in-Ok.ensures in
+    let is = sym (get_or-map (λ (p : Bor (List ℕ)). p.now) c.args.pieces.now c.pieces.piece-index (record { ref_ptr = (0, 0); now = [] })) in
+    let within : c.pieces.piece-index < length (map (λ (p : Bor (List ℕ)). p.now) c.args.pieces.now) = omega (arith, c.pieces-test.true, length-map c.args.pieces.now (λ (p : Bor (List ℕ)). p.now)) in
+    record {
+      written = more_said _ _ _ _ _ _ within is c.pieces.invariant.written put.ok;
+      faults = put.faults.ok ∙ c.pieces.invariant.faults;
+    }
+
+pub returns : goal.returns
+returns g c =
+    let past : length (map (λ (p : Bor (List ℕ)). p.now) c.args.pieces.now) ≤ c.pieces.piece-index = omega (arith, c.pieces-test.false, length-map c.args.pieces.now (λ (p : Bor (List ℕ)). p.now)) in
+    all_said _ _ _ _ _ _ past c.pieces.invariant.written c.pieces.invariant.faults

@@ -1,0 +1,13 @@
+pub mod View
+pub mod Words
+pub mod Meant
+pub mod Report
+pub mod CutOf
+pub mod Script
+pub mod Commands
+pub mod Lines
+pub mod Ran
+pub mod Steps
+pub mod CutAnswers
+pub mod CutSteps
+pub mod CutMeaning

@@ -1,0 +1,43 @@
+-- The words of the command line.
+use Rattle.std.specs.Prelude.{ℕ, List, [], ◌∷◌, Option, Some, None, Bool, false, not, ◌&&◌, bytes_eq, codes, nat_eq, if◌then◌else◌}
+
+-- the files of a cut
+pub record CutWords : Type 0 where
+  pub model : List ℕ
+  pub out : List ℕ
+  pub proof : List ℕ
+  pub point : List ℕ
+
+-- a file's name: not empty, and no `-` in front
+abbrev pub is_name : List ℕ → Bool
+is_name [] = false
+is_name (first ∷ rest) = not (nat_eq first 45)
+
+abbrev pub differ : List ℕ → List ℕ → Bool
+differ a b = not (bytes_eq a b)
+
+unfoldable pub are_files : CutWords → Bool
+are_files c = is_name c.model && is_name c.out && is_name c.proof && is_name c.point
+    && differ c.model c.out && differ c.model c.proof && differ c.model c.point
+    && differ c.out c.proof && differ c.out c.point && differ c.proof c.point
+
+unfoldable pub asks_cut : List ℕ → List ℕ → List ℕ → List ℕ → Bool
+asks_cut command point gen generator =
+    bytes_eq command (codes "cut") && bytes_eq point (codes "--point") && bytes_eq gen (codes "--gen") && bytes_eq generator (codes "round")
+
+-- `cut MODEL OUT PROOF --point FILE --gen round`
+unfoldable pub cut_of : List (List ℕ) → Option CutWords
+cut_of (command ∷ model ∷ out ∷ proof ∷ at ∷ point ∷ gen ∷ generator ∷ []) =
+    let c : CutWords = record { model = model; out = out; proof = proof; point = point } in
+    if asks_cut command at gen generator && are_files c then Some c else None
+cut_of _ = None
+
+pub data CommandWords : Type 0 where
+  CutCommand : CutWords → CommandWords
+
+abbrev pub command_by : Option CutWords → Option CommandWords
+command_by (Some c) = Some (CutCommand c)
+command_by None = None
+
+unfoldable pub command_of : List (List ℕ) → Option CommandWords
+command_of words = command_by (cut_of words)

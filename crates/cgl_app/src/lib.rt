@@ -1,0 +1,16 @@
+//! The program as a call over any shelf and any outputs.
+#![tactic(auto)]
+
+mod cut;
+mod laws;
+mod program;
+mod refusal;
+mod report;
+mod say;
+mod steps;
+mod texts;
+mod words;
+
+pub use laws::cut_laws;
+pub use program::run;
+pub use refusal::{File, Refusal};

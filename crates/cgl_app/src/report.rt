@@ -1,0 +1,114 @@
+ghost use Rattle.std.specs.Prelude.{◌≡◌, ◌++◌, decimal, flat_map, zip, IfOk, OnOk};
+ghost use Rattle.cgl_num.specs.Fraction.{fraction_text};
+ghost use Rattle.cgl_app.specs.Report.{cut_line, generator_word, key_text, report_text, wide_line};
+
+use cgl_model::Name;
+use cgl_num::{Frac, Memory};
+use cgl_pool::Kept;
+use itoa::Buffer;
+use std::alloc::Global;
+
+fn add(text: &mut Vec<u8>, bytes: &[u8]) -> Result<(), Memory>
+    ensures { OnOk result (text.new.items ≡ text.old.items ++ bytes.now) }
+{
+    let Ok(()) = text.extend_from_slice(bytes) else {
+        return Err(Memory);
+    };
+    Ok(())
+}
+
+fn add_number(text: &mut Vec<u8>, number: u64) -> Result<(), Memory>
+    ensures { OnOk result (text.new.items ≡ text.old.items ++ decimal number) }
+{
+    add(text, Buffer::new().format(number).as_bytes())
+}
+
+fn add_fraction(text: &mut Vec<u8>, fraction: Frac) -> Result<(), Memory>
+    ensures { OnOk result (text.new.items ≡ text.old.items ++ fraction_text fraction) }
+{
+    let mut digits = [0; 80];
+    let len = fraction.digits(&mut digits);
+    add(text, &digits[..len])
+}
+
+/// The word for a generator.
+fn generator_word(generator: u32) -> &'static [u8]
+    ensures { result.now ≡ generator_word generator }
+{
+    match generator {
+        0 => b"round",
+        1 => b"probe",
+        2 => b"cover",
+        3 => b"zerohalf",
+        4 => b"gomory",
+        5 => b"mir",
+        6 => b"flow",
+        7 => b"lift",
+        8 => b"reduce",
+        _ => b"",
+    }
+}
+
+fn add_key(text: &mut Vec<u8>, key: (u32, u64)) -> Result<(), Memory>
+    ensures { OnOk result (text.new.items ≡ text.old.items ++ key_text key) }
+{
+    add(text, generator_word(key.0))?;
+    add(text, b" ")?;
+    add_number(text, key.1)?;
+    add(text, b"\n")
+}
+
+fn add_cut(text: &mut Vec<u8>, name: &Name, kept: &Kept) -> Result<(), Memory>
+    ensures { OnOk result (text.new.items ≡ text.old.items ++ cut_line (name.now, kept.now)) }
+{
+    add(text, name.as_slice())?;
+    add(text, b" ")?;
+    add_fraction(text, kept.candidate.violation)?;
+    add(text, b" ")?;
+    add_key(text, kept.key)
+}
+
+fn add_cuts(text: &mut Vec<u8>, mut names: &[Name], mut cuts: &[Kept]) -> Result<(), Memory>
+    ensures { OnOk result (text.new.items ≡ text.old.items ++ flat_map cut_line (zip names.entry.now cuts.entry.now)) }
+{
+    'cuts: while let Some((kept, later)) = cuts.split_first() {
+        let Some((name, others)) = names.split_first() else {
+            return Ok(());
+        };
+        add_cut(text, name, kept)?;
+        names = others;
+        cuts = later;
+    }
+    Ok(())
+}
+
+fn add_wides(text: &mut Vec<u8>, wides: &[(u32, u64)]) -> Result<(), Memory>
+    ensures { OnOk result (text.new.items ≡ text.old.items ++ flat_map wide_line wides.now) }
+{
+    for key in wides {
+        add(text, b"wide ")?;
+        add_key(text, *key)?;
+    }
+    Ok(())
+}
+
+/// The report of the listed cuts, under the names of their rows, and of the wide items.
+#[tactic(auto, unfolding(crate::specs::Report::report_text))]
+pub fn report_text(
+    alloc: Global,
+    names: &[Name],
+    cuts: &[Kept],
+    wides: &[(u32, u64)],
+) -> Result<Vec<u8>, Memory>
+    ensures { IfOk result (λ text. text.items ≡ report_text names.now cuts.now wides.now) }
+{
+    let mut text = Vec::new(alloc);
+    add(&mut text, b"cuts ")?;
+    add_number(&mut text, cuts.len() as u64)?;
+    add(&mut text, b" wide ")?;
+    add_number(&mut text, wides.len() as u64)?;
+    add(&mut text, b"\n")?;
+    add_cuts(&mut text, names, cuts)?;
+    add_wides(&mut text, wides)?;
+    Ok(text)
+}
