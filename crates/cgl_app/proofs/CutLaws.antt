@@ -1,9 +1,9 @@
 -- The answers of `cut`, one by one, and what follows from each.
-use Rattle.std.proofs.Common.{◌≡◌, ◌≢◌, ◌⊎◌, ◌∙◌, ℕ, Bool, true, false, List, Option, Some, None, Result, Ok, Err, IsSome, refl, sym, ap, subst, inl, inr}
+use Rattle.std.proofs.Common.{◌≡◌, ◌≢◌, ◌⊎◌, ◌∙◌, ℕ, Bool, true, false, List, Option, Some, None, Result, Ok, Err, true≢false, refl, sym, ap, subst, inl, inr}
 use Rattle.cgl_model.specs.declared.mip.Model.{Model as Mip}
 use Rattle.cgl_model.specs.Point.{Point as Numbers}
 use Rattle.cgl_deck.specs.DeckText.{deck_text}
-use Rattle.cgl_outside.specs.Shelf.{Held, Lacks, file_of}
+use Rattle.cgl_outside.specs.Shelf.{Held, Lacks}
 use Rattle.cgl_outside.specs.Sink.{with_put}
 use Rattle.cgl_outside.proofs.ShelfLaws.{told_by_file}
 use Rattle.cgl_model.specs.HasDecimals.{HasDecimals}
@@ -25,6 +25,7 @@ use Rattle.cgl_app.specs.Steps.{IsRead}
 use Rattle.cgl_app.specs.CutAnswers.{AreRead, Holds, InForm, IsToWrite, AtOut, AtProof, AtOutput, Calm, ExceedsSizes, IsTooLarge, with_out, with_both, CutAnswer, Answered}
 use Rattle.cgl_app.proofs.CutMeaningLawsExtension.{refused_by_size}
 use Rattle.cgl_app.proofs.DoneLaws.{done}
+use Rattle.cgl_app.proofs.SizeLawsAll.{narrow_never_too_large}
 use Rattle.cgl_app.proofs.WordLaws.{files_apart}
 
 -- ---- what may come of a read
@@ -176,32 +177,44 @@ cut_answer c b a end apart (ReportUnput m n x gm gp is small e why) = at_end c b
 cut_answer c b a end apart (AllDone m n x gm gp is small e same) = at_end c b a end _ e
     (done c b a m n x apart (to_write c b m n x gm gp is small) (ap (λ v. v.held) same) (ap (λ v. v.told) same))
 
-same_size : (m m0 : Mip) (x x0 : Numbers) → m0 ≡ m → x0 ≡ x → IsTooLarge m x → IsTooLarge m0 x0
-same_size m m0 x x0 em ex large =
-    let P : Mip → Type 0 = λ y. IsTooLarge y x0 in
-    let Q : Numbers → Type 0 = λ y. IsTooLarge m y in
-    subst P (sym em) (subst Q (sym ex) large)
-
-same_point : (c : CutWords) (b : View) (m m0 : Mip) (x : Numbers) → m0 ≡ m → GotPoint b c m x → GotPoint b c m0 x
-same_point c b m m0 x e got = let P : Mip → Type 0 = λ y. GotPoint b c y x in subst P (sym e) got
-
 completes : (c : CutWords) (b a : View) (end : Option Refusal) (s : ℕ) (m0 : Mip) (x0 : Numbers) → s ≡ status_of end → InForm c b.held m0 x0
-    → (IsTooLarge m0 x0 → ⊥) → Calm b a → CutCame c b a end → (s ≡ 0) ⊎ (s ≡ 7)
-completes c b a end s m0 x0 is h small calm (OutOfMemory e same) = inr (is ∙ ap status_of e)
-completes c b a end s m0 x0 is h small calm (ModelUnread e why) = elim why.cause [ inl rose ↦ absurd (calm.reads rose) | inr lacks ↦ absurd (no_lack _ _ _ _ h.model_is lacks) ]
-completes c b a end s m0 x0 is h small calm (ModelWrong text fault shows f e same) = absurd (no_fault _ _ _ _ text fault h.model_is shows f)
-completes c b a end s m0 x0 is h small calm (PointUnread m gm e why) = elim why.cause [ inl rose ↦ absurd (calm.reads rose) | inr lacks ↦ absurd (no_lack _ _ _ _ h.point_is lacks) ]
-completes c b a end s m0 x0 is h small calm (PointWrong m gm text fault shows f e same) =
+    → Calm b a → CutCame c b a end → (s ≡ 0) ⊎ (s ≡ 7)
+completes c b a end s m0 x0 is h calm (OutOfMemory e same) = inr (is ∙ ap status_of e)
+completes c b a end s m0 x0 is h calm (ModelUnread e why) = elim why.cause [ inl rose ↦ absurd (calm.reads rose) | inr lacks ↦ absurd (no_lack _ _ _ _ h.model_is lacks) ]
+completes c b a end s m0 x0 is h calm (ModelWrong text fault shows f e same) = absurd (no_fault _ _ _ _ text fault h.model_is shows f)
+completes c b a end s m0 x0 is h calm (PointUnread m gm e why) = elim why.cause [ inl rose ↦ absurd (calm.reads rose) | inr lacks ↦ absurd (no_lack _ _ _ _ h.point_is lacks) ]
+completes c b a end s m0 x0 is h calm (PointWrong m gm text fault shows f e same) =
     let em = same_meaning _ _ _ _ _ h.model_is gm in
     absurd (no_fault _ _ _ _ text fault h.point_is shows (ap (λ y. narrow_point y text) em ∙ f))
-completes c b a end s m0 x0 is h small calm (Oversize m x gm gp large e same) =
-    let em = same_meaning _ _ _ _ _ h.model_is gm in
-    let ex = same_meaning _ _ _ _ _ h.point_is (same_point c b m m0 x em gp) in
-    absurd (small (same_size m m0 x x0 em ex large))
-completes c b a end s m0 x0 is h small calm (OutUnwritten m n x gm gp f sm e why) = absurd (calm.writes why.cause)
-completes c b a end s m0 x0 is h small calm (ProofUnwritten m n x gm gp f sm e why) = absurd (calm.writes why.cause)
-completes c b a end s m0 x0 is h small calm (ReportUnput m n x gm gp f sm e why) = absurd (calm.faults why.cause)
-completes c b a end s m0 x0 is h small calm (AllDone m n x gm gp f sm e same) = inl (is ∙ ap status_of e)
+completes c b a end s m0 x0 is h calm (Oversize m x gm gp large e same) = absurd (narrow_never_too_large gm.text gp.text m x gm.is gp.is large)
+completes c b a end s m0 x0 is h calm (OutUnwritten m n x gm gp f sm e why) = absurd (calm.writes why.cause)
+completes c b a end s m0 x0 is h calm (ProofUnwritten m n x gm gp f sm e why) = absurd (calm.writes why.cause)
+completes c b a end s m0 x0 is h calm (ReportUnput m n x gm gp f sm e why) = absurd (calm.faults why.cause)
+completes c b a end s m0 x0 is h calm (AllDone m n x gm gp f sm e same) = inl (is ∙ ap status_of e)
+
+-- ---- no narrow deck is too large
+
+is_size : Option Refusal → Bool
+is_size None = false
+is_size (Some TooLarge) = true
+is_size (Some refusal) = false
+
+other_end : (end stop : Option Refusal) → is_size stop ≡ false → end ≡ stop → end ≡ Some TooLarge → ⊥
+unfolding is_size
+other_end end stop no_size e size = true≢false (sym (sym no_size ∙ ap is_size (sym e ∙ size)))
+
+fits : (c : CutWords) (b a : View) (end : Option Refusal) → CutCame c b a end → end ≡ Some TooLarge → ⊥
+unfolding is_size
+fits c b a end (OutOfMemory e same) size = other_end end _ refl e size
+fits c b a end (ModelUnread e why) size = other_end end _ refl e size
+fits c b a end (ModelWrong text fault shows is e same) size = other_end end _ refl e size
+fits c b a end (PointUnread m gm e why) size = other_end end _ refl e size
+fits c b a end (PointWrong m gm text fault shows is e same) size = other_end end _ refl e size
+fits c b a end (Oversize m x gm gp large e same) size = narrow_never_too_large gm.text gp.text m x gm.is gp.is large
+fits c b a end (OutUnwritten m n x gm gp f sm e why) size = other_end end _ refl e size
+fits c b a end (ProofUnwritten m n x gm gp f sm e why) size = other_end end _ refl e size
+fits c b a end (ReportUnput m n x gm gp f sm e why) size = other_end end _ refl e size
+fits c b a end (AllDone m n x gm gp f sm e same) size = other_end end _ refl e size
 
 usage_came : (b a : View) (end : Option Refusal) → Came (asked None) b a end → (end ≡ Some Usage) × (a ≡ b)
 unfolding Came
@@ -217,5 +230,6 @@ answered words b a told now faults count s ran =
       tells = ran.tells;
       usage = λ none. usage_came b a ran.end (subst P none ran.came);
       cut = λ c is. cut_answer c b a ran.end (files_apart words c is) (cut_came c b a ran.end (subst P is ran.came));
-      completes = λ c is m x h small calm. completes c b a ran.end s m x ran.status_is h small calm (cut_came c b a ran.end (subst P is ran.came));
+      completes = λ c is m x h calm. completes c b a ran.end s m x ran.status_is h calm (cut_came c b a ran.end (subst P is ran.came));
+      fits = λ c is size. fits c b a ran.end (cut_came c b a ran.end (subst P is ran.came)) size;
     }

@@ -1,18 +1,17 @@
 -- From the texts that a cut makes to what came of its work.
-use Rattle.std.proofs.Common.{◌≡◌, ◌⊎◌, ℕ, Bool, true, false, Option, Some, None, List, refl, sym, ap, subst, inl, inr}
+use Rattle.std.proofs.Common.{◌≡◌, Bool, Option, Some, sym, ap, subst, inl, inr}
 use Rattle.cgl_model.specs.declared.mip.Model.{Model}
 use Rattle.cgl_model.specs.Point.{Point}
 use Rattle.cgl_app.specs.declared.refusal.Refusal.{Refusal}
-use Rattle.cgl_app.specs.declared.refusal.Refusal.TheVariants.{TooLarge, Memory}
+use Rattle.cgl_app.specs.declared.refusal.Refusal.TheVariants.{TooLarge}
 use Rattle.cgl_app.specs.declared.texts.CutTexts.{CutTexts}
 use Rattle.cgl_app.specs.Commands.{by_extension, by_size, cut_works, cut_writes}
 use Rattle.cgl_app.specs.CutAnswers.{IsTooLarge}
-use Rattle.cgl_app.specs.CutOf.{extension, is_too_large}
 use Rattle.cgl_app.specs.CutSteps.{AreTexts, TextsRefused}
 use Rattle.cgl_app.specs.Script.{Came}
 use Rattle.cgl_app.specs.View.{View}
 use Rattle.cgl_app.specs.Words.{CutWords}
-use Rattle.cgl_app.proofs.StepLaws.{no_memory, worked, refused_work}
+use Rattle.cgl_app.proofs.StepLaws.{no_memory, worked}
 
 pub cut_written : (c : CutWords) (m : Model) (x : Point) (texts : CutTexts) (b a : View) (end : Option Refusal) → (t : AreTexts m x texts)
     → Came (cut_writes c t.n m x) b a end → Came (cut_works c m x) b a end

@@ -1,5 +1,5 @@
 -- Models that have no extension.
-use Rattle.std.proofs.Common.{◌≡◌, ◌<◌, ℕ, suc, Bool, true, false, cond, not, ◌&&◌, List, [], ◌∷◌, length, Option, Some, None, refl, sym, ap, ◌∙◌, arith, nat_lt, true≢false, if◌then◌else◌, IsTrue, rules, ◌+◌}
+use Rattle.std.proofs.Common.{◌≡◌, ℕ, Bool, true, false, cond, not, ◌&&◌, List, [], ◌∷◌, length, Option, Some, None, refl, sym, ap, ◌∙◌, arith, nat_lt, true≢false, if◌then◌else◌, IsTrue, rules, ◌+◌}
 use Rattle.std.specs.Prelude.{position}
 use Rattle.std.specs.List.{list_all, prefix_len}
 use Rattle.cgl_model.specs.declared.linear.Ineq.{Ineq}

@@ -14,3 +14,9 @@ pub mod CutMeaningLawsPlaces
 pub mod CutMeaningLaws
 pub mod CutMeaningLawsExtension
 pub mod ReportLaws
+pub mod SizeLaws
+pub mod SizeLawsCuts
+pub mod SizeLawsExtension
+pub mod SizeLawsProof
+pub mod SizeLawsText
+pub mod SizeLawsAll

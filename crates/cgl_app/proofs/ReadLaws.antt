@@ -1,5 +1,5 @@
 -- A file that is too long to be read.
-use Rattle.std.proofs.Common.{◌≡◌, ◌<◌, ◌+◌, ℕ, zero, suc, List, [], ◌∷◌, Result, Ok, Err, Some, None, IsSome, Option, Bool, true, false, refl, ap, sym, ◌∙◌, inr, length, nat_lt, if◌then◌else◌, lit<, arith, rules, add-one}
+use Rattle.std.proofs.Common.{◌≡◌, ◌<◌, ℕ, zero, suc, List, [], ◌∷◌, Result, Err, Some, None, IsSome, Option, true, refl, ap, inr, length, nat_lt, arith, rules}
 use Rattle.cgl_model.specs.declared.mip.Model.{Model as Mip}
 use Rattle.cgl_outside.specs.Shelf.{Held, file_of}
 use Rattle.cgl_mps.specs.Narrow.{narrow_deck}

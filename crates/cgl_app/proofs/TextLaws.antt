@@ -1,5 +1,5 @@
 -- From the steps of a cut in memory to its texts.
-use Rattle.std.proofs.Common.{◌≡◌, ℕ, Bool, true, false, ◌||◌, List, [], ◌∷◌, length, map, zip, Some, Vec, refl, sym, ap, subst, ◌∙◌, inr}
+use Rattle.std.proofs.Common.{◌≡◌, ℕ, Bool, true, false, ◌||◌, List, [], ◌∷◌, length, map, zip, Some, Vec, refl, sym, ap, ◌∙◌, inr}
 use Rattle.std.specs.declared.alloc.Global.{Global}
 use Rattle.cgl_model.specs.declared.linear.Ineq.{Ineq}
 use Rattle.cgl_model.specs.declared.mip.Model.{Model}
@@ -13,7 +13,6 @@ use Rattle.cgl_pool.specs.declared.pool.Stamped.{Stamped}
 use Rattle.cgl_pool.specs.Listed.{Key, listed, wides}
 use Rattle.cgl_prooftext.specs.ProofText.{proof_text}
 use Rattle.cgl_app.specs.declared.refusal.Refusal.TheVariants.{TooLarge}
-use Rattle.cgl_app.specs.declared.texts.CutTexts.{CutTexts}
 use Rattle.cgl_app.specs.CutOf.{answers, extension, inequality_of, is_too_large, is_too_long, listed_cuts, proof_of, proofs_of, report_of}
 use Rattle.cgl_app.specs.CutSteps.{AreTexts, IsExtendedText, TextsRefused, derivation_of}
 use Rattle.cgl_app.specs.Report.{report_text}

@@ -1,5 +1,5 @@
 -- What a reader may rely on for `cut`, by how it ended.
-use Rattle.std.specs.Prelude.{◌≡◌, ◌⊎◌, ℕ, pos, ◌<ℤ◌, true, false, not, IsTrue, List, map, take, Option, Some, None, IsSome, Result, Ok, Err}
+use Rattle.std.specs.Prelude.{◌≡◌, ◌≢◌, ◌⊎◌, ℕ, pos, ◌<ℤ◌, true, false, not, IsTrue, List, map, take, Option, Some, None, IsSome, Result, Ok, Err}
 use Rattle.std.specs.List.{AllByRecursion}
 use Rattle.cgl_model.specs.declared.mip.Model.{Model as Mip}
 use Rattle.cgl_model.specs.Feasible.{SamePoints}
@@ -139,10 +139,10 @@ CutAnswer c before after (Some (Input file line kind)) = InputStop c before afte
 CutAnswer c before after (Some TooLarge) = SizeStop c before after
 CutAnswer c before after (Some Memory) = after ≡ before
 
--- where the files are in form, nothing is too large and no call fails, the work is done or memory was refused
+-- where the files are in form and no call fails, the work is done or memory was refused
 abbrev pub CutCompletes : CutWords → View → View → ℕ → Type 0
 CutCompletes c before after status =
-    (m : Mip) (x : Numbers) → InForm c before.held m x → (IsTooLarge m x → ⊥) → Calm before after → (status ≡ 0) ⊎ (status ≡ 7)
+    (m : Mip) (x : Numbers) → InForm c before.held m x → Calm before after → (status ≡ 0) ⊎ (status ≡ 7)
 
 pub record Answered (words : List (List ℕ)) (before after : View) (told now : Option (List ℕ)) (faults count status : ℕ) : Type 0 where
   pub end : Option Refusal  -- how it ended
@@ -151,3 +151,4 @@ pub record Answered (words : List (List ℕ)) (before after : View) (told now : 
   pub usage : command_of words ≡ None → (end ≡ Some Usage) × (after ≡ before)
   pub cut : (c : CutWords) → command_of words ≡ Some (CutCommand c) → CutAnswer c before after end
   pub completes : (c : CutWords) → command_of words ≡ Some (CutCommand c) → CutCompletes c before after status
+  pub fits : (c : CutWords) → command_of words ≡ Some (CutCommand c) → end ≢ Some TooLarge  -- narrow decks are never too large

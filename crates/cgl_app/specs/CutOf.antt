@@ -9,7 +9,7 @@ use Rattle.cgl_derive.specs.declared.step.Derivation.{Derivation}
 use Rattle.cgl_gen.specs.RoundMember.{round_member}
 use Rattle.cgl_pool.specs.declared.pool.Kept.{Kept}
 use Rattle.cgl_pool.specs.declared.pool.Stamped.{Stamped}
-use Rattle.cgl_pool.specs.Listed.{Key, listed, wides}
+use Rattle.cgl_pool.specs.Listed.{listed, wides}
 use Rattle.cgl_deck.specs.CutNames.{cut_names}
 use Rattle.cgl_deck.specs.DeckText.{deck_text}
 use Rattle.cgl_deck.specs.Extended.{extended}

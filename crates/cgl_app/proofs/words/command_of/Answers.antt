@@ -1,4 +1,4 @@
-use Rattle.std.proofs.Common.{Some, None, sym, ap, ◌∙◌, refl}
+use Rattle.std.proofs.Common.{Some, None}
 use Rattle.cgl_app.proofs.WordLaws.{by_cut}
 use Rattle.cgl_app.proofs.words.command_of.Goals as goal
 

@@ -1,5 +1,5 @@
-use Rattle.std.proofs.Common.{rules, ◌≡◌, ◌<◌, ◌≤◌, ◌∙◌, inl, inr, length, ap, sym, true, false, Some, string_bytes}
-use Rattle.cgl_app.specs.Words.{asks_cut, are_files, cut_of}
+use Rattle.std.proofs.Common.{rules, ◌<◌, ◌≤◌, ◌∙◌, inl, inr, length, ap, sym, Some}
+use Rattle.cgl_app.specs.Words.{are_files, cut_of}
 use Rattle.cgl_app.proofs.WordLaws.{eight, not_eight, asked, no_files, not_asked, same_words, same_asks}
 use Rattle.cgl_app.proofs.words.cut_of.Goals.{in_default-via-then-words-lt8, in_default-via-else-words-lt8+else-words-lt9}
 use Rattle.cgl_app.proofs.words.cut_of.Goals as goal
