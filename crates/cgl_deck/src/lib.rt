@@ -5,8 +5,6 @@ mod extend;
 mod laws;
 mod length;
 mod names;
-#[cfg(test)]
-mod tests;
 mod write;
 
 pub use extend::{ExtendError, with_cuts};

@@ -14,8 +14,6 @@ mod row_shape;
 mod scaling;
 mod seq;
 mod side_list;
-#[cfg(test)]
-mod tests;
 mod violation;
 
 pub use integer_forms::{Forms, RowForm, RowShape};

@@ -18,8 +18,6 @@ mod numbers;
 mod record;
 mod records;
 mod sections;
-#[cfg(test)]
-mod tests_models;
 
 pub use deck::{DeckError, deck_of};
 pub use models_valid::{decks_are_decimal, decks_are_sized, decks_are_valid};

@@ -1,5 +1,5 @@
 ghost use Rattle.std.specs.Prelude.{◌≡◌, ℕ, ℤ, ◌<◌, ◌≤◌, ◌*◌, ◌%◌, ◌^◌, ◌≢◌, unsigned_abs, pos, negsuc, neg_ℤ, cond, ◌≤ℤ◌, ◌+◌, length, take, ◌++◌, decimal, replicate};
-ghost use Rattle.cgl_num.specs.Decimal.{IsDecimal, decimal_of, decimal_text, magnitude_text, minus, padded};
+ghost use Rattle.cgl_num.specs.Decimal.{IsDecimal, decimal_of, decimal_text, magnitude_text, minus, padded, zero_decimal};
 
 use itoa::Buffer;
 use std::marker::Model;
@@ -181,7 +181,10 @@ impl Dec {
 }
 
 impl Default for Dec {
-    fn default() -> Dec {
+    /// The number 0.
+    fn default() -> Dec
+        ensures { result ≡ zero_decimal }
+    {
         Dec { m: 0, e: 0 }
     }
 }

@@ -9,8 +9,6 @@ mod laws;
 mod laws_decimal;
 mod number_text;
 mod order;
-#[cfg(test)]
-mod tests_decimal;
 
 pub use arithmetic::{Op, Overflow};
 pub use decimal::Dec;

@@ -13,8 +13,6 @@ mod sink;
 mod store;
 mod sure_shelf;
 mod sure_sink;
-#[cfg(test)]
-mod tests;
 mod whole;
 
 pub use edge::{DirShelf, StdSink};

@@ -1,9 +1,6 @@
 //! Lines and fields of a text.
 #![tactic(auto)]
 
-#[cfg(test)]
-mod tests_text;
-
 ghost use Rattle.std.specs.Prelude.{◌≡◌, ◌∷◌, ◌<◌, ◌≤◌, ◌≢◌, ℕ, false, true, IfOk, length, map, slice_index};
 ghost use Rattle.cgl_text.specs.Text.{begins_blank, fields_of, is_blank, lines_of};
 

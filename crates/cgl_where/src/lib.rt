@@ -10,8 +10,6 @@ mod numbers;
 mod point;
 mod record;
 mod records;
-#[cfg(test)]
-mod tests;
 mod texts;
 mod values;
 

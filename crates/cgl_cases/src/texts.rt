@@ -1,4 +1,4 @@
-use crate::{ExtendError, cut_names, deck_len, deck_text, with_cuts};
+use cgl_deck::{ExtendError, cut_names, deck_len, deck_text, with_cuts};
 use cgl_model::{Column, Entries, Ineq, Model, Name, Row, RowKind, Seq, Terms};
 use cgl_num::Dec;
 use std::test::Fail;

@@ -1,52 +1,49 @@
 ghost use Rattle.std.specs.Prelude.{◌≡◌, ◌≤◌, ◌<ℤ◌, ◌^◌, ◌∷◌, [], length, pos, IfOk};
 
-use crate::{Column, End, Entries, Forms, Ineq, Model, Place, Point, Row, RowKind, Seq, Terms};
-use cgl_num::{Dec, Memory};
+use cgl_model::{Column, End, Entries, Forms, Ineq, Model, Place, Point, Row, RowKind, Seq, Terms};
+use cgl_num::Dec;
 use std::alloc::Global;
 use std::test::Fail;
 
-fn dec(text: &str) -> Dec {
-    match Dec::read(text.as_bytes()) {
-        Ok(number) => number,
-        Err(_) => Dec::default(),
-    }
+fn dec(text: &str) -> Result<Dec, Fail> {
+    Ok(Dec::read(text.as_bytes())?)
 }
 
-fn row(alloc: Global, kind: RowKind, rhs: &str, range: Option<Dec>) -> Row {
-    Row {
+fn row(alloc: Global, kind: RowKind, rhs: &str, range: Option<Dec>) -> Result<Row, Fail> {
+    Ok(Row {
         name: Seq::new(alloc),
         kind,
-        rhs: dec(rhs),
+        rhs: dec(rhs)?,
         range,
-    }
+    })
 }
 
-fn rows(alloc: Global) -> Result<Seq<Row>, Memory>
+fn rows(alloc: Global) -> Result<Seq<Row>, Fail>
     ensures { IfOk result (λ rows. length rows ≤ 2 ^ 20) }
 {
     let mut rows = Seq::new(alloc);
-    rows.push(row(alloc, RowKind::L, "1.75", None))?;
-    rows.push(row(alloc, RowKind::L, "1", None))?;
-    rows.push(row(alloc, RowKind::L, "1", None))?;
-    rows.push(row(alloc, RowKind::E, "5", Some(dec("-2"))))?;
+    rows.push(row(alloc, RowKind::L, "1.75", None)?)?;
+    rows.push(row(alloc, RowKind::L, "1", None)?)?;
+    rows.push(row(alloc, RowKind::L, "1", None)?)?;
+    rows.push(row(alloc, RowKind::E, "5", Some(dec("-2")?))?)?;
     Ok(rows)
 }
 
-fn column(alloc: Global, lo: &str, entries: &[(u32, &str)]) -> Result<Column, Memory> {
+fn column(alloc: Global, lo: &str, entries: &[(u32, &str)]) -> Result<Column, Fail> {
     let mut list = Entries::new(alloc);
     for entry in entries {
-        list.push((entry.0, dec(entry.1)))?;
+        list.push((entry.0, dec(entry.1)?))?;
     }
     Ok(Column {
         name: Seq::new(alloc),
         integer: false,
-        lo: Some(dec(lo)),
+        lo: Some(dec(lo)?),
         up: None,
         entries: list,
     })
 }
 
-fn columns(alloc: Global) -> Result<Seq<Column>, Memory>
+fn columns(alloc: Global) -> Result<Seq<Column>, Fail>
     ensures { IfOk result (λ columns. length columns ≤ 2 ^ 20) }
 {
     let mut columns = Seq::new(alloc);
@@ -57,7 +54,7 @@ fn columns(alloc: Global) -> Result<Seq<Column>, Memory>
 }
 
 /// `0.5x + 0.25y <= 1.75`, `1e30x <= 1`, `1e30x + 0.1y <= 1`, `x` from 3 to 5, with `x >= 0.5` and `y >= 0`.
-fn model(alloc: Global) -> Result<Model, Memory>
+fn model(alloc: Global) -> Result<Model, Fail>
     ensures { IfOk result (λ m. (length m.rows ≤ 2 ^ 20) × (length m.cols ≤ 2 ^ 20)) }
 {
     Ok(Model {
@@ -70,14 +67,8 @@ fn model(alloc: Global) -> Result<Model, Memory>
 
 #[test]
 fn forms_of_a_model(rt: HostRuntime) -> Result<(), Fail> {
-    let Ok(m) = model(rt.alloc()) else {
-        assert!(rt; false);
-        return Ok(());
-    };
-    let Ok(forms) = Forms::build(rt.alloc(), &m) else {
-        assert!(rt; false);
-        return Ok(());
-    };
+    let m = model(rt.alloc())?;
+    let forms = Forms::build(rt.alloc(), &m)?;
     let power = 10i128.pow(30);
     let sides: [(Place, &[(u32, i128)], i128); 6] = [
         (Place::Row(0, End::Upper), &[(0, -2), (1, -1)], -7),
@@ -98,14 +89,8 @@ fn forms_of_a_model(rt: HostRuntime) -> Result<(), Fail> {
 
 #[test]
 fn rows_and_places(rt: HostRuntime) -> Result<(), Fail> {
-    let Ok(m) = model(rt.alloc()) else {
-        assert!(rt; false);
-        return Ok(());
-    };
-    let Ok(forms) = Forms::build(rt.alloc(), &m) else {
-        assert!(rt; false);
-        return Ok(());
-    };
+    let m = model(rt.alloc())?;
+    let forms = Forms::build(rt.alloc(), &m)?;
     let found = [
         (Place::Row(0, End::Upper), Some(0u32)),
         (Place::Row(0, End::Lower), None),
@@ -133,7 +118,7 @@ fn rows_and_places(rt: HostRuntime) -> Result<(), Fail> {
 }
 
 /// `2x >= 1`.
-fn half(alloc: Global) -> Result<Ineq, Memory>
+fn half(alloc: Global) -> Result<Ineq, Fail>
     ensures { IfOk result (λ c. c.terms ≡ (0, pos 2) ∷ []) }
 {
     let mut terms = Terms::new(alloc);
@@ -141,7 +126,7 @@ fn half(alloc: Global) -> Result<Ineq, Memory>
     Ok(Ineq { terms, rhs: 1 })
 }
 
-fn point(alloc: Global, x: i128, d: i128) -> Result<Point, Memory>
+fn point(alloc: Global, x: i128, d: i128) -> Result<Point, Fail>
     requires { pos 0 <ℤ d }
     ensures { IfOk result (λ p. length p.p ≡ 1) }
 {
@@ -152,15 +137,9 @@ fn point(alloc: Global, x: i128, d: i128) -> Result<Point, Memory>
 
 #[test]
 fn violations(rt: HostRuntime) -> Result<(), Fail> {
-    let Ok(c) = half(rt.alloc()) else {
-        assert!(rt; false);
-        return Ok(());
-    };
+    let c = half(rt.alloc())?;
     for (x, d, num, den) in [(1, 4, 1, 2), (3, 4, -1, 2), (0, 5, 1, 1)] {
-        let Ok(p) = point(rt.alloc(), x, d.max(1)) else {
-            assert!(rt; false);
-            return Ok(());
-        };
+        let p = point(rt.alloc(), x, d.max(1))?;
         match c.violation(&p) {
             Ok(violation) => {
                 assert_eq!(rt; violation.num(), num);
@@ -169,10 +148,7 @@ fn violations(rt: HostRuntime) -> Result<(), Fail> {
             Err(_) => assert!(rt; false),
         }
     }
-    let Ok(p) = point(rt.alloc(), i128::MAX, 1) else {
-        assert!(rt; false);
-        return Ok(());
-    };
+    let p = point(rt.alloc(), i128::MAX, 1)?;
     assert!(rt; c.violation(&p).is_err());
     Ok(())
 }

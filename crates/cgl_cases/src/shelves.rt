@@ -1,4 +1,4 @@
-use crate::{
+use cgl_outside::{
     Call, DirShelf, Fail, MemShelf, MemSink, Shelf, Sink, StdSink, SureShelf, SureSink, WholeError,
     read_whole, write_whole,
 };

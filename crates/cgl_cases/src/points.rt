@@ -1,5 +1,5 @@
-use crate::{PointError, narrow_point, point_of};
 use cgl_model::{Column, Entries, Model, Name, Point, Seq};
+use cgl_where::{PointError, narrow_point, point_of};
 use std::alloc::{AllocError, Global};
 use std::test::Fail;
 

@@ -1,5 +1,5 @@
-use crate::{DeckError, deck_of, narrow_deck};
 use cgl_model::RowKind;
+use cgl_mps::{DeckError, deck_of, narrow_deck};
 use std::test::Fail;
 
 const DECK: &[u8] = b"NAME deck

@@ -1,4 +1,4 @@
-use crate::{Dec, Limit, NumberFault, is_number_text};
+use cgl_num::{Dec, Limit, NumberFault, is_number_text};
 use std::test::Fail;
 
 #[test]

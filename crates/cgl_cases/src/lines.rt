@@ -1,4 +1,4 @@
-use crate::{begins_blank, fields, lines};
+use cgl_text::{begins_blank, fields, lines};
 use std::test::Fail;
 
 #[test]
