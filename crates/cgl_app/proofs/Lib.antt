@@ -2,7 +2,6 @@ pub mod SayLaws
 pub mod RanLaws
 pub mod WordLaws
 pub mod StepLaws
-pub mod ReadLaws
 pub mod TextLaws
 pub mod AnswerLaws
 pub mod ExtensionLaws
@@ -14,9 +13,7 @@ pub mod CutMeaningLawsPlaces
 pub mod CutMeaningLaws
 pub mod CutMeaningLawsExtension
 pub mod ReportLaws
-pub mod SizeLaws
-pub mod SizeLawsCuts
-pub mod SizeLawsExtension
-pub mod SizeLawsProof
-pub mod SizeLawsText
-pub mod SizeLawsAll
+pub mod DecodeLaws
+pub mod ShowLaws
+pub mod AnsweredLaws
+pub mod ShowStepLaws

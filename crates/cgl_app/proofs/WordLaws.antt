@@ -1,8 +1,8 @@
--- Eight words, by their places.
+-- The words of a command, by their places.
 use Rattle.std.proofs.Common.{◌≡◌, ◌≢◌, ◌<◌, ◌≤◌, ◌⊎◌, ◌&&◌, ◌∙◌, ℕ, List, [], ◌∷◌, Some, None, Option, true, false, refl, sym, subst, not, Bool, bytes_eq, true≢false, ap, map, length, get_or, String, string_bytes, arith, if◌then◌else◌}
 use Rattle.std.specs.declared.alloc.Global.{Global}
 use Rattle.std.proofs.lemmas.Slice.Eq.{bytes_eq-Decides}
-use Rattle.cgl_app.specs.Words.{CutWords, CutCommand, differ, asks_cut, are_files, cut_of, command_by, command_of}
+use Rattle.cgl_app.specs.Words.{CutWords, ShowWords, CutCommand, differ, asks_cut, asks_show, are_files, cut_of, show_of, command_by, command_of}
 
 pub eight : (ws : List (String Global)) (a b c d e f g h : String Global) → 8 ≤ length ws → length ws < 9
     → a ≡ get_or ws 0 a → b ≡ get_or ws 1 b → c ≡ get_or ws 2 c → d ≡ get_or ws 3 d → e ≡ get_or ws 4 e → f ≡ get_or ws 5 f → g ≡ get_or ws 6 g → h ≡ get_or ws 7 h
@@ -39,9 +39,43 @@ unfolding files
 same_words a b c d a2 b2 c2 d2 ea eb ec ed =
     ap (λ x. files x b c d) ea ∙ ap (λ x. files a2 x c d) eb ∙ ap (λ x. files a2 b2 x d) ec ∙ ap (λ x. files a2 b2 c2 x) ed
 
-pub by_cut : (o : Option CutWords) (ws : List (List ℕ)) → o ≡ cut_of ws → command_by o ≡ command_of ws
+pub by_words : (o : Option CutWords) (p : Option ShowWords) (ws : List (List ℕ)) → o ≡ cut_of ws → p ≡ show_of ws → command_by o p ≡ command_of ws
 unfolding command_of
-by_cut o ws e = ap command_by e
+by_words o p ws eo ep = ap (λ x. command_by x p) eo ∙ ap (command_by (cut_of ws)) ep
+
+pub by_cut : (c : CutWords) (ws : List (List ℕ)) → Some c ≡ cut_of ws → Some (CutCommand c) ≡ command_of ws
+unfolding command_of
+by_cut c ws e = ap (λ o. command_by o (show_of ws)) e
+
+-- ---- three words
+
+pub three : (ws : List (String Global)) (a b c : String Global) → 3 ≤ length ws → length ws < 4 → a ≡ get_or ws 0 a → b ≡ get_or ws 1 b → c ≡ get_or ws 2 c
+    → map string_bytes ws ≡ string_bytes a ∷ string_bytes b ∷ string_bytes c ∷ []
+three (u ∷ v ∷ w ∷ []) a b c low high ea eb ec = cc
+three _ a b c low high ea eb ec = grind arith
+
+pub not_three : (ws : List (String Global)) → (length ws < 3) ⊎ (4 ≤ length ws) → ◌≡◌ {A = Option ShowWords} None (show_of (map string_bytes ws))
+unfolding show_of
+not_three (u ∷ v ∷ w ∷ []) far = grind arith
+not_three _ far = refl
+
+pub show_asked : (a : List ℕ) (s : ShowWords) → true ≡ asks_show a s → Some s ≡ show_of (a ∷ s.model ∷ s.out ∷ [])
+unfolding show_of
+show_asked a s asks = ap (λ t. if t then Some s else None) asks
+
+pub show_not_asked : (a : List ℕ) (s : ShowWords) → false ≡ asks_show a s → ◌≡◌ {A = Option ShowWords} None (show_of (a ∷ s.model ∷ s.out ∷ []))
+unfolding show_of
+show_not_asked a s asks = ap (λ t. if t then Some s else None) asks
+
+pub same_show_asks : (a a2 : List ℕ) (s s2 : ShowWords) → a ≡ a2 → s ≡ s2 → asks_show a s ≡ asks_show a2 s2
+same_show_asks a a2 s s2 ea es = ap (λ x. asks_show x s) ea ∙ ap (asks_show a2) es
+
+shown : List ℕ → List ℕ → ShowWords
+shown a b = record { model = a; out = b }
+
+pub same_shown : (a b a2 b2 : List ℕ) → a ≡ a2 → b ≡ b2 → ◌≡◌ {A = ShowWords} (record { model = a; out = b }) (record { model = a2; out = b2 })
+unfolding shown
+same_shown a b a2 b2 ea eb = ap (λ x. shown x b) ea ∙ ap (λ x. shown a2 x) eb
 
 pub same_asks : (a b c d a2 b2 c2 d2 : List ℕ) → a ≡ a2 → b ≡ b2 → c ≡ c2 → d ≡ d2 → asks_cut a b c d ≡ asks_cut a2 b2 c2 d2
 same_asks a b c d a2 b2 c2 d2 ea eb ec ed =
@@ -75,9 +109,10 @@ chosen_is : (t : Bool) (d c : CutWords) → (if t then Some d else None) ≡ Som
 chosen_is true d c e = cc
 chosen_is false d c e = cc
 
-command_is : (o : Option CutWords) (c : CutWords) → command_by o ≡ Some (CutCommand c) → o ≡ Some c
-command_is None c e = cc
-command_is (Some d) c e = cc
+command_is : (o : Option CutWords) (p : Option ShowWords) (c : CutWords) → command_by o p ≡ Some (CutCommand c) → o ≡ Some c
+command_is None None c e = cc
+command_is None (Some s) c e = cc
+command_is (Some d) p c e = cc
 
 cut_files : (words : List (List ℕ)) (c : CutWords) → cut_of words ≡ Some c → are_files c ≡ true
 unfolding cut_of
@@ -91,4 +126,4 @@ cut_files _ c e = cc
 -- OUT and PROOF are two files
 pub files_apart : (words : List (List ℕ)) (c : CutWords) → command_of words ≡ Some (CutCommand c) → c.out ≢ c.proof
 unfolding command_of
-files_apart words c e = files_differ c (cut_files words c (command_is (cut_of words) c e))
+files_apart words c e = files_differ c (cut_files words c (command_is (cut_of words) (show_of words) c e))

@@ -1,5 +1,5 @@
 -- What a reader may rely on for `cut`, by how it ended.
-use Rattle.std.specs.Prelude.{◌≡◌, ◌≢◌, ◌⊎◌, ℕ, pos, ◌<ℤ◌, true, false, not, IsTrue, List, map, take, Option, Some, None, IsSome, Result, Ok, Err}
+use Rattle.std.specs.Prelude.{◌≡◌, ◌⊎◌, ℕ, pos, ◌<ℤ◌, true, false, not, IsTrue, List, map, take, Option, Some, None, IsSome, Result, Ok, Err}
 use Rattle.std.specs.List.{AllByRecursion}
 use Rattle.cgl_model.specs.declared.mip.Model.{Model as Mip}
 use Rattle.cgl_model.specs.Feasible.{SamePoints}
@@ -17,14 +17,13 @@ use Rattle.cgl_app.specs.declared.refusal.Refusal.{Refusal}
 use Rattle.cgl_app.specs.declared.refusal.Refusal.TheVariants.{Usage, ReadFault, WriteFault, Input, TooLarge, Memory}
 use Rattle.cgl_app.specs.Commands.{name_of}
 use Rattle.cgl_app.specs.CutOf.{listed_cuts, extension, inequality_of, proofs_of, report_of, is_too_large}
-use Rattle.cgl_app.specs.Lines.{status_of}
-use Rattle.cgl_mps.specs.Narrow.{narrow_deck}
-use Rattle.cgl_where.specs.Narrow.{narrow_point}
-use Rattle.cgl_app.specs.Ran.{Tells, names_of}
+use Rattle.cgl_mps.specs.Decode.{decode, Deck}
+use Rattle.cgl_mps.specs.DeckResult.{deck_result}
+use Rattle.cgl_where.specs.PointRead.{point_result}
 use Rattle.cgl_app.specs.Script.{Shows}
 use Rattle.cgl_app.specs.Steps.{IsRead}
 use Rattle.cgl_app.specs.View.{View}
-use Rattle.cgl_app.specs.Words.{CutWords, CutCommand, command_of}
+use Rattle.cgl_app.specs.Words.{CutWords, CutCommand}
 
 -- the file is there, and its bytes mean this
 pub record Holds {A : Type 0} (held : Held) (name : List ℕ) (meaning : List ℕ → Result A (ℕ × ℕ)) (a : A) : Type 0 where
@@ -40,8 +39,8 @@ pub record IsFaulty {A : Type 0} (held : Held) (name : List ℕ) (meaning : List
 
 -- both input files are in form: a deck, and a point of its model
 pub record InForm (c : CutWords) (held : Held) (m : Mip) (x : Numbers) : Type 0 where
-  pub model_is : Holds held c.model narrow_deck m
-  pub point_is : Holds held c.point (narrow_point m) x
+  pub model_is : Holds held c.model deck_result m
+  pub point_is : Holds held c.point (point_result m) x
 
 -- the file of this name is as before or holds a first part of its text; the other files are as before
 abbrev pub PartWritten : Held → Held → List ℕ → List ℕ → Type 0
@@ -68,8 +67,8 @@ pub record IsRightCut (m : Mip) (x : Numbers) (k : Kept) : Type 0 where
 
 -- the model and the point that were read; where the shelf tells its bytes, they are what the files hold
 pub record AreRead (c : CutWords) (held : Held) (m : Mip) (x : Numbers) : Type 0 where
-  pub model_is : IsRead held c.model narrow_deck m
-  pub point_is : IsRead held c.point (narrow_point m) x
+  pub model_is : IsRead held c.model deck_result m
+  pub point_is : IsRead held c.point (point_result m) x
 
 -- the model with the listed cuts, which is to be written
 pub record IsToWrite (c : CutWords) (held : Held) (m n : Mip) (x : Numbers) : Type 0 where
@@ -84,6 +83,7 @@ pub record Done (c : CutWords) (before after : View) : Type 0 where
   pub x : Numbers
   pub written : IsToWrite c before.held m n x
   pub out_is : IsSome before.held → file_of after.held c.out ≡ Some (deck_text n)
+  pub decodes : decode (deck_text n) ≡ Deck n  -- so OUT decodes to the model with the listed cuts
   pub proof_is : IsSome before.held → file_of after.held c.proof ≡ Some (proofs_of m x)
   pub files : after.held ≡ with_both c before.held n m x
   pub report : after.told ≡ with_put before.told (report_of m x)
@@ -94,7 +94,7 @@ pub record Done (c : CutWords) (before after : View) : Type 0 where
 pub record ReadStop (c : CutWords) (before after : View) (file : File) : Type 0 where
   pub cause : Rose before.reads after.reads ⊎ Lacks before.held (name_of (CutCommand c) file)
   pub rest : after ≡ record before { reads = after.reads }
-  pub order : (file ≡ Model) ⊎ ((file ≡ Point) × ((m : Mip) × IsRead before.held c.model narrow_deck m))
+  pub order : (file ≡ Model) ⊎ ((file ≡ Point) × ((m : Mip) × IsRead before.held c.model deck_result m))
 
 -- status 4, with the file that is named, or the output
 pub data WriteStop (c : CutWords) (before after : View) : File → Type 0 where
@@ -109,8 +109,8 @@ pub data WriteStop (c : CutWords) (before after : View) : File → Type 0 where
 -- status 5, with the file that is named, its line and kind; nothing has changed
 pub record InputStop (c : CutWords) (before after : View) (file : File) (line kind : ℕ) : Type 0 where
   pub rest : after ≡ before
-  pub first : ((file ≡ Model) × IsFaulty before.held c.model narrow_deck line kind)
-      ⊎ ((file ≡ Point) × ((m : Mip) × IsRead before.held c.model narrow_deck m × IsFaulty before.held c.point (narrow_point m) line kind))
+  pub first : ((file ≡ Model) × IsFaulty before.held c.model deck_result line kind)
+      ⊎ ((file ≡ Point) × ((m : Mip) × IsRead before.held c.model deck_result m × IsFaulty before.held c.point (point_result m) line kind))
 
 -- the model with the listed cuts is beyond the limits, or a text to be written is too long
 abbrev pub IsTooLarge : Mip → Numbers → Type 0
@@ -139,16 +139,8 @@ CutAnswer c before after (Some (Input file line kind)) = InputStop c before afte
 CutAnswer c before after (Some TooLarge) = SizeStop c before after
 CutAnswer c before after (Some Memory) = after ≡ before
 
--- where the files are in form and no call fails, the work is done or memory was refused
+-- where the files are in form and no call fails: memory was refused, or the work is done, or it is refused as too large, exactly where it is
 abbrev pub CutCompletes : CutWords → View → View → ℕ → Type 0
 CutCompletes c before after status =
-    (m : Mip) (x : Numbers) → InForm c before.held m x → Calm before after → (status ≡ 0) ⊎ (status ≡ 7)
-
-pub record Answered (words : List (List ℕ)) (before after : View) (told now : Option (List ℕ)) (faults count status : ℕ) : Type 0 where
-  pub end : Option Refusal  -- how it ended
-  pub status_is : status ≡ status_of end
-  pub tells : Tells (names_of (command_of words)) told now faults count end  -- the line on `err`
-  pub usage : command_of words ≡ None → (end ≡ Some Usage) × (after ≡ before)
-  pub cut : (c : CutWords) → command_of words ≡ Some (CutCommand c) → CutAnswer c before after end
-  pub completes : (c : CutWords) → command_of words ≡ Some (CutCommand c) → CutCompletes c before after status
-  pub fits : (c : CutWords) → command_of words ≡ Some (CutCommand c) → end ≢ Some TooLarge  -- narrow decks are never too large
+    (m : Mip) (x : Numbers) → InForm c before.held m x → Calm before after
+    → (status ≡ 7) ⊎ ((IsTooLarge m x → ⊥) × (status ≡ 0)) ⊎ (IsTooLarge m x × (status ≡ 6))

@@ -9,5 +9,8 @@ pub mod Lines
 pub mod Ran
 pub mod Steps
 pub mod CutAnswers
+pub mod ShowAnswers
+pub mod Answered
 pub mod CutSteps
+pub mod ShowSteps
 pub mod CutMeaning

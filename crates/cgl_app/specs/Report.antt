@@ -1,7 +1,8 @@
--- The report of a cut.
-use Rattle.std.specs.Prelude.{ℕ, List, [], ◌∷◌, ◌++◌, codes, decimal, length, flat_map, zip, slice_get, unwrap_or}
+-- The reports of the commands.
+use Rattle.std.specs.Prelude.{ℕ, List, [], ◌∷◌, ◌++◌, codes, decimal, length, flat_map, zip, slice_get, sum_by, unwrap_or}
 use Rattle.cgl_num.specs.Fraction.{fraction_text}
 use Rattle.cgl_num.specs.NumberText.{Word}
+use Rattle.cgl_model.specs.declared.mip.Model.{Model}
 use Rattle.cgl_pool.specs.declared.pool.Kept.{Kept}
 use Rattle.cgl_pool.specs.Listed.{Key}
 
@@ -28,3 +29,9 @@ unfoldable pub report_text : List Word → List Kept → List Key → List ℕ
 report_text names cuts wide =
     codes "cuts " ++ decimal (length cuts) ++ codes " wide " ++ decimal (length wide) ++ codes "\n"
     ++ flat_map cut_line (zip names cuts) ++ flat_map wide_line wide
+
+-- how many rows, columns and entries a model has
+unfoldable pub counts_text : Model → List ℕ
+counts_text m =
+    codes "rows " ++ decimal (length m.rows) ++ codes " cols " ++ decimal (length m.cols)
+    ++ codes " entries " ++ decimal (sum_by (λ c. length c.entries) m.cols) ++ codes "\n"

@@ -32,12 +32,29 @@ cut_of (command ∷ model ∷ out ∷ proof ∷ at ∷ point ∷ gen ∷ generat
     if asks_cut command at gen generator && are_files c then Some c else None
 cut_of _ = None
 
+-- the files of a show
+pub record ShowWords : Type 0 where
+  pub model : List ℕ
+  pub out : List ℕ
+
+unfoldable pub asks_show : List ℕ → ShowWords → Bool
+asks_show command s = bytes_eq command (codes "show") && is_name s.model && is_name s.out && differ s.model s.out
+
+-- `show MODEL OUT`
+unfoldable pub show_of : List (List ℕ) → Option ShowWords
+show_of (command ∷ model ∷ out ∷ []) =
+    let s : ShowWords = record { model = model; out = out } in
+    if asks_show command s then Some s else None
+show_of _ = None
+
 pub data CommandWords : Type 0 where
   CutCommand : CutWords → CommandWords
+  ShowCommand : ShowWords → CommandWords
 
-abbrev pub command_by : Option CutWords → Option CommandWords
-command_by (Some c) = Some (CutCommand c)
-command_by None = None
+abbrev pub command_by : Option CutWords → Option ShowWords → Option CommandWords
+command_by (Some c) show = Some (CutCommand c)
+command_by None (Some s) = Some (ShowCommand s)
+command_by None None = None
 
 unfoldable pub command_of : List (List ℕ) → Option CommandWords
-command_of words = command_by (cut_of words)
+command_of words = command_by (cut_of words) (show_of words)

@@ -15,7 +15,7 @@ ghost use Rattle.cgl_app.specs.Meant.{words_of};
 
 use crate::report::report_text;
 use crate::steps::{put_report, read_model, read_point, write_file};
-use crate::texts::CutTexts;
+use crate::texts::{CutTexts, is_too_long};
 use crate::words::Cut;
 use crate::{File, Refusal};
 use cgl_deck::{ExtendError, cut_names, deck_text, with_cuts};
@@ -27,9 +27,6 @@ use cgl_outside::{Shelf, Sink};
 use cgl_pool::{Gathered, Kept, Stamped, gather};
 use cgl_prooftext::proof_text;
 use std::alloc::Global;
-
-/// The most bytes of a file that is written.
-const MOST_WRITTEN: usize = 1 << 30;
 
 /// What simple rounding says of each side.
 fn answers(alloc: Global, model: &Model, point: &Point) -> Result<Vec<Stamped>, Memory>
@@ -97,12 +94,6 @@ fn pairs(
         };
     }
     Ok(pairs)
-}
-
-fn is_too_long(text: &[u8]) -> bool
-    ensures { result ≡ is_too_long text.now }
-{
-    text.len() > MOST_WRITTEN
 }
 
 fn are_too_long(deck: &[u8], proofs: &[u8]) -> bool

@@ -5,9 +5,8 @@ ghost use Rattle.cgl_app.specs.Meant.{meant};
 ghost use Rattle.std.specs.Prelude.{◌≡◌, ◌↔◌, ◌⊎◌, ℕ, map, string_bytes, Some, None, IsSome};
 ghost use Rattle.cgl_app.specs.View.{view};
 ghost use Rattle.cgl_app.specs.Lines.{status_of};
-ghost use Rattle.cgl_app.specs.Words.{cut_of};
 ghost use Rattle.cgl_app.specs.Ran.{Ran};
-ghost use Rattle.cgl_app.specs.CutAnswers.{Answered};
+ghost use Rattle.cgl_app.specs.Answered.{Answered};
 
 use crate::Refusal;
 use crate::say::{say_usage, say_why};
@@ -42,6 +41,7 @@ fn perform<S: Shelf, O: Sink>(
 {
     match command {
         Command::Cut(cut) => crate::cut::cut(alloc, cut, shelf, out),
+        Command::Show(show) => crate::show::show(alloc, show, shelf, out),
     }
 }
 

@@ -1,8 +1,9 @@
-ghost use Rattle.std.specs.Prelude.{◌≡◌, ◌++◌, decimal, flat_map, zip, IfOk, OnOk};
+ghost use Rattle.std.specs.Prelude.{◌≡◌, ◌≤◌, ◌^◌, ◌++◌, decimal, flat_map, length, sum_by, zip, IfOk, OnOk};
+ghost use Rattle.cgl_model.specs.Valid.{IsSized};
 ghost use Rattle.cgl_num.specs.Fraction.{fraction_text};
-ghost use Rattle.cgl_app.specs.Report.{cut_line, generator_word, key_text, report_text, wide_line};
+ghost use Rattle.cgl_app.specs.Report.{counts_text, cut_line, generator_word, key_text, report_text, wide_line};
 
-use cgl_model::Name;
+use cgl_model::{Column, Model, Name};
 use cgl_num::{Frac, Memory};
 use cgl_pool::Kept;
 use itoa::Buffer;
@@ -110,5 +111,36 @@ pub fn report_text(
     add(&mut text, b"\n")?;
     add_cuts(&mut text, names, cuts)?;
     add_wides(&mut text, wides)?;
+    Ok(text)
+}
+
+/// How many entries the columns have.
+fn entries(columns: &[Column]) -> u64
+    requires { sum_by (λ c. length c.entries) columns.now ≤ 2 ^ 22 }
+    ensures { result ≡ sum_by (λ c. length c.entries) columns.now }
+{
+    let mut count = 0;
+    let mut rest = columns;
+    while let [column, later @ ..] = rest {
+        count += column.entries.as_slice().len() as u64;
+        rest = later;
+    }
+    count
+}
+
+/// How many rows, columns and entries the model has.
+#[tactic(auto, unfolding(crate::specs::Report::counts_text))]
+pub fn counts_text(alloc: Global, model: &Model) -> Result<Vec<u8>, Memory>
+    requires { IsSized model.now }
+    ensures { IfOk result (λ text. text.items ≡ counts_text model.now) }
+{
+    let mut text = Vec::new(alloc);
+    add(&mut text, b"rows ")?;
+    add_number(&mut text, model.rows.as_slice().len() as u64)?;
+    add(&mut text, b" cols ")?;
+    add_number(&mut text, model.cols.as_slice().len() as u64)?;
+    add(&mut text, b" entries ")?;
+    add_number(&mut text, entries(model.cols.as_slice()))?;
+    add(&mut text, b"\n")?;
     Ok(text)
 }

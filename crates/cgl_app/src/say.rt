@@ -30,6 +30,12 @@ fn name_of<'a>(command: &Command<'a>, file: File) -> &'a str
             File::Proof => cut.proof,
             File::StandardOutput => "standard output",
         },
+        Command::Show(show) => match file {
+            File::Model => show.model,
+            File::Out => show.out,
+            File::Point | File::Proof => "",
+            File::StandardOutput => "standard output",
+        },
     }
 }
 

@@ -1,20 +1,15 @@
 ghost use Rattle.std.specs.Prelude.{◌≡◌, ℕ, List, OnOk, IfOk, IfErr, length};
 ghost use Rattle.cgl_model.specs.Valid.{IsValid};
-ghost use Rattle.cgl_mps.specs.Narrow.{narrow_deck};
-ghost use Rattle.cgl_where.specs.Narrow.{narrow_point};
+ghost use Rattle.cgl_mps.specs.DeckResult.{deck_result};
+ghost use Rattle.cgl_where.specs.PointRead.{point_result};
 ghost use Rattle.cgl_outside.specs.Shelf.{with_file};
 ghost use Rattle.cgl_outside.specs.Sink.{with_put};
 ghost use Rattle.cgl_app.specs.Steps.{IsRead, ReadRefused, WriteRefused, PutRefused};
 
 use crate::{File, Refusal};
 use cgl_model::{Model, Point};
-use cgl_mps::{DeckError, narrow_deck};
-use cgl_outside::{Shelf, Sink, WholeError, read_whole, write_whole};
-use cgl_where::{PointError, narrow_point};
+use cgl_outside::{ReadError, Shelf, Sink, write_whole};
 use std::alloc::Global;
-
-/// The most bytes of a file that is read.
-const MOST_BYTES: usize = 65536;
 
 /// The model that a deck's file holds.
 pub fn read_model<S: Shelf>(alloc: Global, shelf: &mut S, name: &str) -> Result<Model, Refusal>
@@ -22,25 +17,14 @@ pub fn read_model<S: Shelf>(alloc: Global, shelf: &mut S, name: &str) -> Result<
     ensures writes { S.failed_writes shelf.new ≡ S.failed_writes shelf.old }
     ensures reads { OnOk result (S.failed_reads shelf.new ≡ S.failed_reads shelf.old) }
     ensures valid { IfOk result IsValid }
-    ensures model { IfOk result (IsRead (S.held shelf.old) name.now narrow_deck) }
-    ensures refused { IfErr result (ReadRefused (S.held shelf.old) (S.failed_reads shelf.old) (S.failed_reads shelf.new) File.Model name.now narrow_deck) }
+    ensures model { IfOk result (IsRead (S.held shelf.old) name.now deck_result) }
+    ensures refused { IfErr result (ReadRefused (S.held shelf.old) (S.failed_reads shelf.old) (S.failed_reads shelf.new) File.Model name.now deck_result) }
 {
-    let bytes = match read_whole(alloc, shelf, name, MOST_BYTES) {
-        Ok(bytes) => bytes,
-        Err(WholeError::Memory) => return Err(Refusal::Memory),
-        Err(WholeError::Large) => {
-            return Err(Refusal::Input {
-                file: File::Model,
-                line: 1,
-                kind: 9,
-            });
-        }
-        Err(WholeError::ReadFault) => return Err(Refusal::ReadFault(File::Model)),
-    };
-    match narrow_deck(alloc, &bytes) {
+    match cgl_mps::read_deck(alloc, shelf, name) {
         Ok(model) => Ok(model),
-        Err(DeckError::Memory) => Err(Refusal::Memory),
-        Err(DeckError::Fault { line, kind }) => Err(Refusal::Input {
+        Err(ReadError::Memory) => Err(Refusal::Memory),
+        Err(ReadError::ReadFault) => Err(Refusal::ReadFault(File::Model)),
+        Err(ReadError::Fault { line, kind }) => Err(Refusal::Input {
             file: File::Model,
             line,
             kind,
@@ -59,25 +43,14 @@ pub fn read_point<S: Shelf>(
     ensures writes { S.failed_writes shelf.new ≡ S.failed_writes shelf.old }
     ensures reads { OnOk result (S.failed_reads shelf.new ≡ S.failed_reads shelf.old) }
     ensures sized { IfOk result (λ x. length x.p ≡ length model.now.cols) }
-    ensures point { IfOk result (IsRead (S.held shelf.old) name.now (narrow_point model.now)) }
-    ensures refused { IfErr result (ReadRefused (S.held shelf.old) (S.failed_reads shelf.old) (S.failed_reads shelf.new) File.Point name.now (narrow_point model.now)) }
+    ensures point { IfOk result (IsRead (S.held shelf.old) name.now (point_result model.now)) }
+    ensures refused { IfErr result (ReadRefused (S.held shelf.old) (S.failed_reads shelf.old) (S.failed_reads shelf.new) File.Point name.now (point_result model.now)) }
 {
-    let bytes = match read_whole(alloc, shelf, name, MOST_BYTES) {
-        Ok(bytes) => bytes,
-        Err(WholeError::Memory) => return Err(Refusal::Memory),
-        Err(WholeError::Large) => {
-            return Err(Refusal::Input {
-                file: File::Point,
-                line: 1,
-                kind: 9,
-            });
-        }
-        Err(WholeError::ReadFault) => return Err(Refusal::ReadFault(File::Point)),
-    };
-    match narrow_point(alloc, &bytes, model) {
+    match cgl_where::read_point(alloc, shelf, name, model) {
         Ok(point) => Ok(point),
-        Err(PointError::Memory) => Err(Refusal::Memory),
-        Err(PointError::Fault { line, kind }) => Err(Refusal::Input {
+        Err(ReadError::Memory) => Err(Refusal::Memory),
+        Err(ReadError::ReadFault) => Err(Refusal::ReadFault(File::Point)),
+        Err(ReadError::Fault { line, kind }) => Err(Refusal::Input {
             file: File::Point,
             line,
             kind,

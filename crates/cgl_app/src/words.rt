@@ -1,6 +1,6 @@
 ghost use Rattle.std.specs.Prelude.{◌≡◌, List, map, string_bytes, option_map};
-ghost use Rattle.cgl_app.specs.Words.{is_name, are_files, asks_cut, cut_of, command_of};
-ghost use Rattle.cgl_app.specs.Meant.{words_of, meant};
+ghost use Rattle.cgl_app.specs.Words.{is_name, are_files, asks_cut, asks_show, cut_of, show_of, command_of};
+ghost use Rattle.cgl_app.specs.Meant.{words_of, show_words_of, meant};
 
 /// The files that a cut is of.
 #[derive(Clone, Copy)]
@@ -72,10 +72,39 @@ pub fn cut_of(words: &[String]) -> Option<Cut<'_>>
     Some(cut)
 }
 
+/// The files that a show is of.
+#[derive(Clone, Copy)]
+pub struct Show<'a> {
+    pub model: &'a str,
+    pub out: &'a str,
+}
+
+#[tactic(auto, unfolding(crate::specs::Words::asks_show))]
+fn asks_show(command: &str, show: &Show<'_>) -> bool
+    ensures { result ≡ asks_show command.now (show_words_of show.now) }
+{
+    command == "show" && is_name(show.model) && is_name(show.out) && show.model != show.out
+}
+
+/// What the words `show MODEL OUT` ask for.
+pub fn show_of(words: &[String]) -> Option<Show<'_>>
+    ensures { option_map show_words_of result ≡ show_of (map string_bytes words.now) }
+{
+    let [command, model, out] = words else {
+        return None;
+    };
+    let show = Show { model, out };
+    if !asks_show(command, &show) {
+        return None;
+    }
+    Some(show)
+}
+
 /// What the words ask for.
 #[derive(Clone, Copy)]
 pub enum Command<'a> {
     Cut(Cut<'a>),
+    Show(Show<'a>),
 }
 
 pub fn command_of(words: &[String]) -> Option<Command<'_>>
@@ -83,6 +112,9 @@ pub fn command_of(words: &[String]) -> Option<Command<'_>>
 {
     match cut_of(words) {
         Some(cut) => Some(Command::Cut(cut)),
-        None => None,
+        None => match show_of(words) {
+            Some(show) => Some(Command::Show(show)),
+            None => None,
+        },
     }
 }

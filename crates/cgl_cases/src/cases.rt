@@ -60,6 +60,26 @@ fn a_cut_is_written_with_its_derivation(rt: HostRuntime) -> Result<(), Fail> {
 }
 
 #[test]
+fn a_decimal_point_gives_the_same_cut(rt: HostRuntime) -> Result<(), Fail> {
+    let alloc = rt.alloc();
+    let mut shelf = SureShelf::new(alloc);
+    assert!(rt; shelf.put_file("m.mps", DECK).is_ok());
+    assert!(rt;
+        shelf
+            .put_file("x.txt", b"\r\n a 1/2\n\tb 2/4\r\nc 0.5")
+            .is_ok()
+    );
+    let mut out = SureSink::new(alloc);
+    let mut err = SureSink::new(alloc);
+    let words = cut_words(alloc, FILES)?;
+    assert_eq!(rt; run(alloc, &words, &mut shelf, &mut out, &mut err), 0);
+    assert!(rt; holds(&shelf, "o.mps", CUT_DECK), "deck");
+    assert!(rt; holds(&shelf, "p.txt", PROOFS), "derivations");
+    assert!(rt; out.bytes() == REPORT, "report");
+    Ok(())
+}
+
+#[test]
 fn two_equal_names_are_refused(rt: HostRuntime) -> Result<(), Fail> {
     let alloc = rt.alloc();
     let mut shelf = SureShelf::new(alloc);

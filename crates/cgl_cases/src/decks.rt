@@ -1,5 +1,5 @@
 use cgl_model::RowKind;
-use cgl_mps::{DeckError, deck_of, narrow_deck};
+use cgl_mps::{DeckError, deck_of};
 use std::test::Fail;
 
 const DECK: &[u8] = b"NAME deck
@@ -75,39 +75,5 @@ fn deck_has_fault(rt: HostRuntime) -> Result<(), Fail> {
         return Ok(());
     };
     assert_eq!(rt; fault, DeckError::Fault { line: 3, kind: 7 });
-    Ok(())
-}
-
-const NARROW: &[u8] = b"NAME P1
-ROWS
- N OBJ
- L R1
-COLUMNS
- a OBJ 1 R1 3
- b OBJ 1 R1 3
-RHS
- RHS R1 5
-BOUNDS
- BV BND a
- BV BND b
-ENDATA
-";
-
-#[test]
-fn narrow_deck_gives_model(rt: HostRuntime) -> Result<(), Fail> {
-    let Ok(model) = narrow_deck(rt.alloc(), NARROW) else {
-        assert!(rt; false);
-        return Ok(());
-    };
-    assert!(rt; model.name.as_slice() == b"P1".as_slice());
-    assert_eq!(rt; model.rows.as_slice().len(), 2);
-    assert_eq!(rt; model.cols.as_slice().len(), 2);
-    Ok(())
-}
-
-#[test]
-fn narrow_deck_is_refused(rt: HostRuntime) -> Result<(), Fail> {
-    let refused = narrow_deck(rt.alloc(), DECK);
-    assert_eq!(rt; refused.err(), Some(DeckError::Fault { line: 1, kind: 9 }));
     Ok(())
 }

@@ -41,7 +41,6 @@ fn line_start(text: &[u8], k: usize) -> usize {
 fn hostile_files_are_refused(rt: HostRuntime) -> Result<(), Fail> {
     let alloc = rt.alloc();
     let model_fault = b"cgl: input fault: m.mps line ";
-    let point_fault = b"cgl: input fault: x.txt line ";
     for k in 0..15usize {
         let end = line_start(DECK, k);
         if end <= DECK.len() {
@@ -51,28 +50,63 @@ fn hostile_files_are_refused(rt: HostRuntime) -> Result<(), Fail> {
             );
         }
     }
-    let decks: [&[u8]; 5] = [
-        b"NAME P1\nROWS\n N OBJ\n L R1\nCOLUMNS\n a OBJ 1 R2 3\nRHS\n RHS R1 5\nBOUNDS\n BV BND a\nENDATA\n",
-        b"NAME P1\nROWS\n N OBJ\n L R1\nCOLUMNS\n a R1 1 R1 3\nRHS\n RHS R1 5\nBOUNDS\n BV BND a\nENDATA\n",
-        b"NAME P1\nROWS\n N OBJ\n L R1\nCOLUMNS\n a R1 3\nRHS\n RHS R1 5\nBOUNDS\n BV BND a\n BV BND a\nENDATA\n",
-        b"NAME P1\nROWS\n N OBJ\n L R1\nCOLUMNS\n a R1 1000000000000000000000000\nRHS\n RHS R1 5\nBOUNDS\n BV BND a\nENDATA\n",
-        b"NAME P1\nROWS\n N OBJ\n L R1\nCOLUMNS\n a R1 3\0\nRHS\n RHS R1 5\nBOUNDS\n BV BND a\nENDATA\n",
+    let decks: [(&[u8], &[u8]); 5] = [
+        (
+            b"NAME P1\nROWS\n N OBJ\n L R1\nCOLUMNS\n a OBJ 1 R2 3\nRHS\n RHS R1 5\nENDATA\n",
+            b"cgl: input fault: m.mps line 6 kind 5\n",
+        ),
+        (
+            b"NAME P1\nROWS\n N OBJ\n L R1\nCOLUMNS\n a R1 1 R1 3\nRHS\n RHS R1 5\nENDATA\n",
+            b"cgl: input fault: m.mps line 6 kind 7\n",
+        ),
+        (
+            b"NAME P1\nROWS\n N OBJ\n L R1\nCOLUMNS\n a R1 1234567890123456789012345\nENDATA\n",
+            b"cgl: input fault: m.mps line 6 kind 4\n",
+        ),
+        (
+            b"NAME P1\nROWS\n N OBJ\n L R1\nCOLUMNS\n a R1 3\0\nENDATA\n",
+            b"cgl: input fault: m.mps line 6 kind 4\n",
+        ),
+        (
+            b"NAME P1\nROWS\n L R1\nCOLUMNS\n a R1 3\nBOUNDS\n SC BND a 4\nENDATA\n",
+            b"cgl: input fault: m.mps line 7 kind 9\n",
+        ),
     ];
-    for (i, deck) in decks.iter().enumerate() {
-        assert!(rt; is_refused(alloc, deck, POINT, model_fault)?, "deck {i}");
+    for (i, (deck, line)) in decks.iter().enumerate() {
+        assert!(rt; is_refused(alloc, deck, POINT, line)?, "deck {i}");
     }
-    let points: [&[u8]; 5] = [b"q 1\n", b"a 1\na 1\n", b"a 1/0\n", b"a 1/+2\n", b"a 1\0\n"];
-    for (i, point) in points.iter().enumerate() {
-        assert!(rt; is_refused(alloc, DECK, point, point_fault)?, "point {i}");
+    let points: [(&[u8], &[u8]); 9] = [
+        (b"q 1\n", b"cgl: input fault: x.txt line 1 kind 6\n"),
+        (
+            b"a 1\n* b\na 1\n",
+            b"cgl: input fault: x.txt line 3 kind 14\n",
+        ),
+        (b"a 1/0\n", b"cgl: input fault: x.txt line 1 kind 4\n"),
+        (b"a 1/+2\n", b"cgl: input fault: x.txt line 1 kind 4\n"),
+        (b"a 1\0\n", b"cgl: input fault: x.txt line 1 kind 4\n"),
+        (b"a 1\nb\nq 1\n", b"cgl: input fault: x.txt line 2 kind 3\n"),
+        (b"a 1\nb 1e36\n", b"cgl: input fault: x.txt line 2 kind 4\n"),
+        (
+            b"a 1/2147483648\nb 1/2147483647\nc 1/3\n",
+            b"cgl: input fault: x.txt line 3 kind 13\n",
+        ),
+        (
+            b"\r\n\ta 1\n 0 0\n",
+            b"cgl: input fault: x.txt line 3 kind 6\n",
+        ),
+    ];
+    for (i, (point, line)) in points.iter().enumerate() {
+        assert!(rt; is_refused(alloc, DECK, point, line)?, "point {i}");
     }
     let long = vec![in alloc; b'\n'; 65537]?;
     assert!(rt;
-        is_refused(alloc, &long, POINT, model_fault)?,
+        is_refused(
+            alloc,
+            &long,
+            POINT,
+            b"cgl: input fault: m.mps line 65538 kind 10\n"
+        )?,
         "a long deck"
-    );
-    assert!(rt;
-        is_refused(alloc, DECK, &long, point_fault)?,
-        "a long point file"
     );
     Ok(())
 }

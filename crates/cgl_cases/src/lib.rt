@@ -6,6 +6,8 @@ mod cases;
 #[cfg(test)]
 mod decimals;
 #[cfg(test)]
+mod deck_table;
+#[cfg(test)]
 mod decks;
 #[cfg(test)]
 mod faults;
@@ -18,8 +20,14 @@ mod lines;
 #[cfg(test)]
 mod models;
 #[cfg(test)]
+mod plain_points;
+#[cfg(test)]
+mod point_table;
+#[cfg(test)]
 mod points;
 #[cfg(test)]
 mod shelves;
+#[cfg(test)]
+mod shows;
 #[cfg(test)]
 mod texts;

@@ -1,5 +1,5 @@
 use cgl_model::{Column, Entries, Model, Name, Point, Seq};
-use cgl_where::{PointError, narrow_point, point_of};
+use cgl_where::{PointError, point_of};
 use std::alloc::{AllocError, Global};
 use std::test::Fail;
 
@@ -18,7 +18,7 @@ fn column(alloc: Global, name: u8) -> Result<Column, AllocError> {
 }
 
 /// A model with the columns a, b and c.
-fn model(alloc: Global) -> Result<Model, AllocError> {
+pub fn model(alloc: Global) -> Result<Model, AllocError> {
     let mut columns = Vec::new(alloc);
     columns.push(column(alloc, b'a')?)?;
     columns.push(column(alloc, b'b')?)?;
@@ -31,18 +31,11 @@ fn model(alloc: Global) -> Result<Model, AllocError> {
     })
 }
 
-fn read(alloc: Global, text: &[u8], model: &Model) -> Option<Result<Point, PointError>> {
+pub fn read(alloc: Global, text: &[u8], model: &Model) -> Option<Result<Point, PointError>> {
     if text.len() > 65536 {
         return None;
     }
     Some(point_of(alloc, text, model))
-}
-
-fn read_narrow(alloc: Global, text: &[u8], model: &Model) -> Option<Result<Point, PointError>> {
-    if text.len() > 65536 {
-        return None;
-    }
-    Some(narrow_point(alloc, text, model))
 }
 
 /// Whether the answer is the fault.
@@ -129,26 +122,5 @@ fn long_lines_are_told(rt: HostRuntime) -> Result<(), Fail> {
     let longer = [b'*'; 4097];
     assert!(rt; is_point(read(alloc, &longest, &model), &[0, 0, 0], 1));
     assert!(rt; is_fault(read(alloc, &longer, &model), 1, 11));
-    Ok(())
-}
-
-#[test]
-fn narrow_points_are_read(rt: HostRuntime) -> Result<(), Fail> {
-    let alloc = rt.alloc();
-    let model = model(alloc)?;
-    assert!(rt; is_point(read_narrow(alloc, b"c 1/2\na +3\n", &model), &[6, 0, 1], 2));
-    let cases: [(&[u8], u64, u8); 5] = [
-        (b"a 0.5", 1, 9),
-        (b"b 1\na 1e2", 1, 9),
-        (b"b 1\nq 1", 2, 9),
-        (b"b 1\na 1/+2", 2, 9),
-        (b"a 1000000000000000000000000/3", 1, 9),
-    ];
-    for (text, line, kind) in cases {
-        assert!(rt;
-            is_fault(read_narrow(alloc, text, &model), line, kind),
-            "{text:?}"
-        );
-    }
     Ok(())
 }

@@ -22,7 +22,7 @@ use Rattle.cgl_deck.proofs.ExtensionLaws.{extension_of, with_rows_few, with_rows
 
 -- ---- lists of names
 
-all_append : {X : Type 0} (P : X → Type 0) (a b : List X) → AllByRecursion P a → AllByRecursion P b → AllByRecursion P (a ++ b)
+pub all_append : {X : Type 0} (P : X → Type 0) (a b : List X) → AllByRecursion P a → AllByRecursion P b → AllByRecursion P (a ++ b)
 all_append P [] b h k = k
 all_append P (x ∷ a) b h k = (h.0, all_append P a b h.1 k)
 

@@ -1,4 +1,5 @@
 pub mod CutNames
 pub mod Extended
 pub mod DeckText
+pub mod DeckLines
 pub mod DeckLength

@@ -1,15 +1,13 @@
 -- The first condition that holds, and the judgement of a line's pairs.
-use Rattle.std.proofs.Common.{◌≡◌, refl, sym, ap, ap₂, ◌∙◌, arith, ℕ, ◌+◌, ◌^◌, ◌<◌, ◌≤◌, ◌==◌, nat_lt, Bool, true, false, cond, not, ◌&&◌, ◌||◌, List, [], ◌∷◌, ◌++◌, append-nil, length, take, Option, Some, None, is_some, unwrap_or, option_map}
+use Rattle.std.proofs.Common.{◌≡◌, refl, sym, ap, ap₂, ◌∙◌, arith, ℕ, ◌<◌, ◌≤◌, nat_lt, Bool, true, false, cond, not, ◌||◌, List, [], ◌∷◌, ◌++◌, append-nil, length, take, Option, Some, None, is_some, unwrap_or, option_map}
 use Rattle.std.specs.List.{list_any, cons_option}
-use Rattle.std.proofs.lemmas.Bool.Decides.{nat_tests}
 use denote.Ref.{Bor}
 use Rattle.cgl_num.specs.NumberText.{Word, is_number, limit}
 use Rattle.cgl_mps.specs.declared.record.BoundKind.{BoundKind}
 use Rattle.cgl_mps.specs.declared.record.BoundKind.TheVariants.{Lo, Li, Up, Ui, Fx, Fr, Mi, Pl, Bv}
-use Rattle.cgl_text.specs.Text.{lines_of}
 use Rattle.cgl_mps.specs.Records.{Record}
 use Rattle.cgl_mps.specs.Sections.{Pair, pairs_of, sense_in, senses, needs_value}
-use Rattle.cgl_mps.specs.Faults.{Condition, first_kind, each_pair, no_word, conditions, fault_after, takes, is_value_of}
+use Rattle.cgl_mps.specs.Faults.{Condition, first_kind, each_pair, no_word, conditions, fault_after, takes, is_over, is_value_of}
 use Rattle.cgl_mps.specs.Decode.{deck_limits}
 use Rattle.cgl_mps.specs.Seen.{words, word_at}
 use Rattle.cgl_mps.specs.Found.{has_sense}
@@ -88,18 +86,22 @@ second_pair judge (a ∷ (b ∷ (c ∷ (d ∷ (f ∷ (g ∷ fields)))))) le lt e
 
 -- the limit on bytes
 
-not_over : (bytes : List ℕ) → length bytes ≤ 2 ^ 30 → nat_lt (2 ^ 30) (length bytes) ≡ false
-not_over bytes le = grind (arith, nat_tests)
+kind_over : (over : Bool) (rest : Option ℕ) → true ≡ over → Some 12 ≡ cond over (Some 12) rest
+kind_over true rest e = refl
+kind_over false rest e = cc
 
-not_more : (b c : Bool) (x y : Option ℕ) → b ≡ false → y ≡ cond (b && c) x y
-not_more true c x y e = cc
-not_more false c x y e = refl
+kind_not_over : (over : Bool) (rest : Option ℕ) → false ≡ over → rest ≡ cond over (Some 12) rest
+kind_not_over true rest e = cc
+kind_not_over false rest e = refl
 
-pub within_limits : (bytes : List ℕ) (before : List Record) (r : Record) → length bytes ≤ 2 ^ 30
+pub fault_over : (bytes : List ℕ) (before : List Record) (r : Record) → true ≡ is_over deck_limits bytes r.line → Some 12 ≡ fault_after deck_limits bytes before r
+unfolding fault_after
+fault_over bytes before r e = kind_over (is_over deck_limits bytes r.line) (first_kind ((nat_lt 4096 r.bytes, 11) ∷ conditions deck_limits before r)) e
+
+pub fault_not_over : (bytes : List ℕ) (before : List Record) (r : Record) → false ≡ is_over deck_limits bytes r.line
     → first_kind ((nat_lt 4096 r.bytes, 11) ∷ conditions deck_limits before r) ≡ fault_after deck_limits bytes before r
 unfolding fault_after
-within_limits bytes before r le =
-    not_more (nat_lt (2 ^ 30) (length bytes)) (length (lines_of (take (2 ^ 30 + 1) bytes)) == r.line) (Some 12) (first_kind ((nat_lt 4096 r.bytes, 11) ∷ conditions deck_limits before r)) (not_over bytes le)
+fault_not_over bytes before r e = kind_not_over (is_over deck_limits bytes r.line) (first_kind ((nat_lt 4096 r.bytes, 11) ∷ conditions deck_limits before r)) e
 
 -- values of bounds
 

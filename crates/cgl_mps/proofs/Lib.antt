@@ -1,10 +1,12 @@
 pub mod NameLaws
-pub mod SplitLaws
 pub mod CountLaws
 pub mod FaultLaws
 pub mod ReadingLaws
+pub mod FrontLaws
 pub mod BoundLaws
 pub mod ModelLaws
+pub mod PushLaws
+pub mod CarriedLaws
 pub mod JudgedLaws
 pub mod DistinctLaws
 pub mod SizeLaws
@@ -13,4 +15,4 @@ pub mod EntryLaws
 pub mod BoundValueLaws
 pub mod ValidLaws
 pub mod DecimalLaws
-pub mod NarrowLaws
+pub mod DeckResultLaws

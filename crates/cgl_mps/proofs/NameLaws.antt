@@ -1,28 +1,17 @@
 -- A name among the rows, columns or pairs of some records: one record after another answers.
-use Rattle.std.proofs.Common.{◌≡◌, refl, sym, ap, ap₂, ◌∙◌, Bool, true, false, cond, not, ◌&&◌, ◌||◌, List, [], ◌∷◌, ◌++◌, map, filter, filter_map, bytes_eq}
+use Rattle.std.proofs.Common.{◌≡◌, refl, sym, ap, ap₂, ◌∙◌, Bool, true, false, cond, not, ◌&&◌, ◌||◌, List, [], ◌∷◌, map, filter, bytes_eq}
 use Rattle.std.specs.List.{list_any, flat_map}
 use Rattle.std.proofs.lemmas.List.Folds.{list_any-append}
-use Rattle.std.proofs.lemmas.List.Elements.{filter-append, filter_map-append}
-use Rattle.std.proofs.lemmas.List.{map-append}
 use Rattle.std.specs.Cmp.Lexicographic.{same_text}
 use Rattle.cgl_num.specs.NumberText.{Word}
 use Rattle.cgl_text.specs.Text.{is_one_of}
-use Rattle.cgl_mps.specs.declared.record.Section.{Section}
-use Rattle.cgl_mps.specs.declared.record.Section.TheVariants.{Rows, Columns}
-use Rattle.cgl_mps.specs.Records.{Record, field, data_in, same_section}
-use Rattle.cgl_mps.specs.Sections.{distinct, is_marker, names_column, column_records, column_names, row_in, row_names, entry_pairs, set_pairs, same_set, set_in, first_or, counts_after, counting, counting_pairs}
-use Rattle.cgl_mps.specs.Faults.{is_new_column, names_row, pairs_of_column}
-use Rattle.cgl_mps.specs.Found.{is_data_of, is_column_named, has_entry_in, has_value_in}
+use Rattle.cgl_mps.specs.declared.record.Section.TheVariants.{Columns}
+use Rattle.cgl_mps.specs.Records.{Record, field, data_in}
+use Rattle.cgl_mps.specs.Sections.{distinct, is_marker, names_column, column_records, column_names}
+use Rattle.cgl_mps.specs.Faults.{is_new_column}
+use Rattle.cgl_mps.specs.Found.{is_data_of, is_column_named}
 
 -- a list that is made element by element
-
-any_each : {A B : Type 0} (f : List A → List B) (p : B → Bool) → f [] ≡ [] → ((x : A) (xs : List A) → f (x ∷ xs) ≡ f (x ∷ []) ++ f xs)
-    → (xs : List A) → list_any (λ x. list_any p (f (x ∷ []))) xs ≡ list_any p (f xs)
-any_each f p none step [] = sym (ap (list_any p) none)
-any_each f p none step (x ∷ xs) =
-    ap (λ b. list_any p (f (x ∷ [])) || b) (any_each f p none step xs)
-    ∙ sym (list_any-append p (f (x ∷ [])) (f xs))
-    ∙ sym (ap (list_any p) (step x xs))
 
 filtered : {A : Type 0} (q p : A → Bool) (x : A) (xs : List A) → list_any (λ y. q y && p y) xs ≡ list_any p (filter q xs) → (b : Bool)
     → ((b && p x) || list_any (λ y. q y && p y) xs) ≡ list_any p (cond b (x ∷ filter q xs) (filter q xs))
@@ -41,24 +30,6 @@ pub any-same : {A : Type 0} (p q : A → Bool) → ((x : A) → p x ≡ q x) →
 any-same p q same [] = refl
 any-same p q same (x ∷ xs) = ap₂ (λ a b. a || b) (same x) (any-same p q same xs)
 
-and_assoc : (a b c : Bool) → (a && b && c) ≡ (a && (b && c))
-and_assoc true b c = refl
-and_assoc false b c = refl
-
--- rows
-
-pub data_in-first : (section : Section) (r : Record) (rs : List Record) → data_in section (r ∷ rs) ≡ data_in section (r ∷ []) ++ data_in section rs
-data_in-first section r rs = filter-append (λ q. not q.header && same_section section q.section) (r ∷ []) rs
-
-pub row_names-first : (r : Record) (rs : List Record) → row_names (r ∷ rs) ≡ row_names (r ∷ []) ++ row_names rs
-row_names-first r rs =
-    ap (λ l. map (λ p. p.1) (filter_map (λ q. row_in q.fields) l)) (data_in-first Rows r rs)
-    ∙ ap (map (λ p. p.1)) (filter_map-append (λ q. row_in q.fields) (data_in Rows (r ∷ [])) (data_in Rows rs))
-    ∙ map-append (λ p. p.1) (filter_map (λ q. row_in q.fields) (data_in Rows (r ∷ []))) (filter_map (λ q. row_in q.fields) (data_in Rows rs))
-
-pub any_row : (records : List Record) (name : Word) → list_any (λ r. is_one_of (row_names (r ∷ [])) name) records ≡ is_one_of (row_names records) name
-any_row records name = any_each row_names (bytes_eq name) refl row_names-first records
-
 -- columns
 
 -- a name of a column stands on no marker line
@@ -66,46 +37,11 @@ not_marker : (m b : Bool) → (not m && b) ≡ (not m && (not m && b))
 not_marker true b = refl
 not_marker false b = refl
 
-and_not_marker : (m b q : Bool) → (not m && b && q) ≡ (not m && (not m && b && q))
-and_not_marker true b q = refl
-and_not_marker false b q = refl
-
 pub any_column : (records : List Record) (name : Word) → list_any (is_column_named name) records ≡ list_any (names_column name) (column_records records)
 any_column records name =
     any-filter (is_data_of Columns) (names_column name) records
     ∙ any-same (names_column name) (λ r. not (is_marker r) && names_column name r) (λ r. not_marker (is_marker r) (bytes_eq name (field 0 r))) (data_in Columns records)
     ∙ any-filter (λ r. not (is_marker r)) (names_column name) (data_in Columns records)
-
--- entries
-
-pub any_entry : (records : List Record) (column row : Word) → list_any (has_entry_in column row) records ≡ names_row (pairs_of_column records column) row
-any_entry records column row =
-    let own : Record → Bool = λ r. names_column column r && names_row (entry_pairs r) row in
-    any-same (has_entry_in column row) (λ r. is_data_of Columns r && own r) (λ r. and_assoc (is_data_of Columns r) (names_column column r) (names_row (entry_pairs r) row)) records
-    ∙ any-filter (is_data_of Columns) own records
-    ∙ any-same own (λ r. not (is_marker r) && own r) (λ r. and_not_marker (is_marker r) (bytes_eq column (field 0 r)) (names_row (entry_pairs r) row)) (data_in Columns records)
-    ∙ any-filter (λ r. not (is_marker r)) own (data_in Columns records)
-    ∙ any-filter (names_column column) (λ r. names_row (entry_pairs r) row) (column_records records)
-    ∙ any-flat_map entry_pairs (λ p. bytes_eq row p.0) (filter (names_column column) (column_records records))
-
--- values of the set that counts
-
-any_of_set : (section : Section) (r : Record) (row : Word) (lines : List Record)
-    → list_any (λ q. same_set (set_in section (first_or r lines)) (set_in section q) && names_row (set_pairs q) row) lines
-    ≡ list_any (λ q. same_set (set_in section (first_or q lines)) (set_in section q) && names_row (set_pairs q) row) lines
-any_of_set section r row [] = refl
-any_of_set section r row (first ∷ lines) = refl
-
-pub any_counting : (section : Section) (records : List Record) (r : Record) (row : Word)
-    → list_any (has_value_in section (set_in section (first_or r (data_in section records))) row) records ≡ names_row (counting_pairs section records) row
-any_counting section records r row =
-    let set = set_in section (first_or r (data_in section records)) in
-    let own : Record → Bool = λ q. same_set set (set_in section q) && names_row (set_pairs q) row in
-    any-same (has_value_in section set row) (λ q. is_data_of section q && own q) (λ q. and_assoc (is_data_of section q) (same_set set (set_in section q)) (names_row (set_pairs q) row)) records
-    ∙ any-filter (is_data_of section) own records
-    ∙ any_of_set section r row (data_in section records)
-    ∙ any-filter (counts_after section records) (λ q. names_row (set_pairs q) row) (data_in section records)
-    ∙ any-flat_map set_pairs (λ p. bytes_eq row p.0) (counting section records)
 
 -- a table of names, each once, has the names that stand on the lines
 

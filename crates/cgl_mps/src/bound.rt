@@ -48,6 +48,18 @@ impl<'a> Bound<'a> {
         }
     }
 
+    /// The same bound once more, of the same text.
+    pub(crate) fn again(&self) -> Bound<'a>
+        ensures { result ≡ self.now }
+    {
+        Bound {
+            kind: self.kind,
+            set: self.set,
+            column: self.column,
+            value: self.value,
+        }
+    }
+
     pub(crate) fn kind(&self) -> BoundKind
         ensures { result ≡ self.now.kind }
     {

@@ -1,8 +1,10 @@
-ghost use Rattle.std.specs.Prelude.{◌≡◌, ◌⊎◌, ◌∷◌, ◌++◌, [], ℕ, ◌≤◌, ◌^◌, length, IfErr, IfOk, OnOk};
+ghost use Rattle.std.specs.Prelude.{◌≡◌, ◌⊎◌, ◌∷◌, ◌++◌, [], ℕ, ◌+◌, ◌≤◌, ◌^◌, ◌&&◌, false, length, IfErr, IfOk};
 ghost use Rattle.cgl_model.specs.Valid.{IsValid};
-ghost use Rattle.cgl_mps.specs.Records.{kept};
+ghost use Rattle.cgl_mps.specs.Records.{is_kept, kept};
 ghost use Rattle.cgl_mps.specs.Decode.{decode, Deck, Fault};
+ghost use Rattle.cgl_mps.specs.Carried.{splits};
 
+use crate::carried::Carried;
 use crate::faults::fault_after;
 use crate::models::model_of;
 use crate::record::{Record, Section};
@@ -22,22 +24,22 @@ pub enum DeckError {
     Memory,
 }
 
-/// Appends the record, where it has fields.
-pub(crate) fn keep<'a>(records: &mut Vec<Record<'a>>, r: Record<'a>) -> Result<(), Memory>
-    ensures { OnOk result (records.new.items ≡ records.old.items ++ kept (r.entry ∷ [])) }
+/// These with the record, where it has fields.
+fn keep<'a>(alloc: Global, before: Carried<'a>, r: Record<'a>) -> Result<Carried<'a>, Memory>
+    requires { (is_kept r && splits before r) ≡ false }
+    ensures { IfOk result (λ next. next ≡ before.entry ++ kept (r.entry ∷ [])) }
 {
-    if !is_kept(&r) {
-        return Ok(());
+    if is_kept(&r) {
+        before.with(alloc, r)
+    } else {
+        Ok(before)
     }
-    let Ok(()) = records.push(r) else {
-        return Err(Memory);
-    };
-    Ok(())
 }
 
-/// The model that a deck means.
+/// The model that a deck means. Of a text with more bytes than a deck may have, one byte past the
+/// limit is enough.
 pub fn deck_of(alloc: Global, bytes: &[u8]) -> Result<Model, DeckError>
-    requires { length bytes.now ≤ 2 ^ 30 }
+    requires { length bytes.now ≤ 2 ^ 30 + 1 }
     ensures model { IfOk result (λ m. decode bytes.now ≡ Deck m) }
     ensures valid { IfOk result IsValid }
     ensures fault { IfErr result (λ e. (e ≡ DeckError.Memory)
@@ -47,21 +49,22 @@ pub fn deck_of(alloc: Global, bytes: &[u8]) -> Result<Model, DeckError>
     let Ok(lines) = lines(alloc, bytes) else {
         return Err(DeckError::Memory);
     };
-    let mut before = Vec::new(alloc);
+    let mut before = Carried::new(alloc);
     let mut section = Section::Start;
     let mut n = 1;
     for line in lines.iter() {
         let Ok(r) = record_of(alloc, n, section, line) else {
             return Err(DeckError::Memory);
         };
-        if let Some(kind) = fault_after(&before, &r) {
+        if let Some(kind) = fault_after(bytes, lines.len(), &before, &r) {
             return Err(DeckError::Fault { line: n, kind });
         }
         section = r.section();
         let ends = is_end(&r);
-        let Ok(()) = keep(&mut before, r) else {
+        let Ok(next) = keep(alloc, before, r) else {
             return Err(DeckError::Memory);
         };
+        before = next;
         if ends {
             let Ok(model) = model_of(alloc, &before) else {
                 return Err(DeckError::Memory);

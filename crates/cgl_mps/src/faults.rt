@@ -1,25 +1,34 @@
 //! The first fault of a line, after the records before it.
 
-ghost use Rattle.std.specs.Prelude.{◌≡◌, ◌∷◌, ◌+◌, ◌^◌, ◌≤◌, [], ℕ, List, Some, false, length, nat_lt, not, option_map, true, unwrap_or};
+ghost use Rattle.std.specs.Prelude.{◌≡◌, ◌∷◌, ◌+◌, ◌^◌, ◌≤◌, [], Some, false, length, nat_lt, not, option_map, true, unwrap_or};
 ghost use Rattle.std.specs.List.{list_any};
 ghost use Rattle.cgl_num.specs.NumberText.{is_number, limit};
+ghost use Rattle.cgl_text.specs.Text.{lines_of};
 ghost use Rattle.cgl_mps.specs.Decode.{deck_limits};
 ghost use Rattle.cgl_mps.specs.Sections.{counts_after, pairs_of, senses};
-ghost use Rattle.cgl_mps.specs.Faults.{bound_conditions, column_conditions, columns_conditions, conditions, data_conditions, each_pair, entry_conditions, fault_after, first_kind, header_conditions, is_header_form, is_long, is_marker_form, is_misplaced, is_sense_form, is_value_of, needs, no_word, pair_conditions, rank, row_conditions, sense_conditions, set_conditions, takes, value_conditions};
+ghost use Rattle.cgl_mps.specs.Faults.{bound_conditions, column_conditions, columns_conditions, conditions, data_conditions, each_pair, entry_conditions, fault_after, first_kind, header_conditions, is_header_form, is_long, is_marker_form, is_misplaced, is_over, is_sense_form, is_split, is_value_of, needs, no_word, pair_conditions, rank, row_conditions, sense_conditions, set_conditions, takes, value_conditions};
 ghost use Rattle.cgl_mps.specs.Seen.{word, words};
 ghost use Rattle.cgl_mps.specs.Found.{has_sense, is_behind};
+ghost use Rattle.cgl_mps.specs.Carried.{HasPairs};
 
 use crate::bound::Bound;
+use crate::carried::Carried;
 use crate::counts::{is_full_of_columns, is_full_of_entries, is_full_of_rows};
-use crate::names::{has_entry, has_row, has_value, is_new_column, is_split, lacks_column};
+use crate::names::{
+    bound_counts, counts_after, has_entry, has_row, has_value, is_new_column, is_split,
+    lacks_column,
+};
 use crate::numbers::{is_number, limit, number};
 use crate::record::{BoundKind, Record, Section, field};
 use crate::records::is_kept;
 use crate::sections::{
-    bound_in, counts_after, entry_fields, has_header, is_marker, is_sense, names_row, needs_value,
-    row_in, same_bytes, sense_in, set_fields, word_at,
+    bound_in, entry_fields, has_header, is_marker, is_sense, names_row, needs_value, row_in,
+    same_bytes, sense_in, set_fields, word_at,
 };
 use cgl_num::Limit;
+
+/// The most bytes of a deck.
+pub(crate) const MOST_BYTES: usize = 1 << 30;
 
 fn is_long(name: &[u8]) -> bool
     ensures { result ≡ is_long name.now }
@@ -142,7 +151,7 @@ fn sense_fault(before: &[Record], r: &Record) -> Option<u8>
 
 // ROWS
 
-fn row_fault(before: &[Record], r: &Record) -> Option<u8>
+fn row_fault(before: &Carried, r: &Record) -> Option<u8>
     ensures { result ≡ first_kind (row_conditions deck_limits before.now r.now) }
 {
     if row_in(r.fields()).is_none() {
@@ -173,12 +182,13 @@ fn is_marker_form(r: &Record) -> bool
 }
 
 fn entry_fault(
-    before: &[Record],
+    before: &Carried,
     name: &[u8],
     earlier: &[&[u8]],
     row: &[u8],
     value: &[u8],
 ) -> Option<u8>
+    requires { is_split before.now name.now ≡ false }
     ensures { result
         ≡ first_kind (entry_conditions deck_limits before.now name.now
         (pairs_of (words earlier.now)) (row.now, value.now)) }
@@ -199,8 +209,9 @@ fn entry_fault(
 }
 
 /// The first fault of at most two pairs.
-fn entries_fault(before: &[Record], name: &[u8], fields: &[&[u8]]) -> Option<u8>
-    requires { length fields.now ≤ 5 }
+fn entries_fault(before: &Carried, name: &[u8], fields: &[&[u8]]) -> Option<u8>
+    requires few { length fields.now ≤ 5 }
+    requires whole { is_split before.now name.now ≡ false }
     ensures { result
         ≡ first_kind (each_pair (entry_conditions deck_limits before.now name.now) []
         (pairs_of (words fields.now))) }
@@ -223,7 +234,7 @@ fn entries_fault(before: &[Record], name: &[u8], fields: &[&[u8]]) -> Option<u8>
     )
 }
 
-fn column_fault(before: &[Record], r: &Record) -> Option<u8>
+fn column_fault(before: &Carried, r: &Record) -> Option<u8>
     requires { length r.now.fields ≤ 5 }
     ensures { result ≡ first_kind (column_conditions deck_limits before.now r.now) }
 {
@@ -240,7 +251,7 @@ fn column_fault(before: &[Record], r: &Record) -> Option<u8>
     entries_fault(before, name, entry_fields(r))
 }
 
-fn columns_fault(before: &[Record], r: &Record) -> Option<u8>
+fn columns_fault(before: &Carried, r: &Record) -> Option<u8>
     ensures { result ≡ first_kind (columns_conditions deck_limits before.now r.now) }
 {
     let count = r.fields().len();
@@ -260,12 +271,13 @@ fn columns_fault(before: &[Record], r: &Record) -> Option<u8>
 
 fn pair_fault(
     section: Section,
-    before: &[Record],
+    before: &Carried,
     r: &Record,
     earlier: &[&[u8]],
     row: &[u8],
     value: &[u8],
 ) -> Option<u8>
+    requires { HasPairs section }
     ensures { result
         ≡ first_kind (pair_conditions section before.now (counts_after section before.now r.now)
         (pairs_of (words earlier.now)) (row.now, value.now)) }
@@ -274,7 +286,7 @@ fn pair_fault(
     if counts && !has_row(before, row) {
         return Some(5);
     }
-    if counts && (has_value(section, before, r, row) || names_row(earlier, row)) {
+    if counts && (has_value(section, before, row) || names_row(earlier, row)) {
         return Some(7);
     }
     if number(value).is_none() {
@@ -284,8 +296,9 @@ fn pair_fault(
 }
 
 /// The first fault of at most two pairs.
-fn pairs_fault(section: Section, before: &[Record], r: &Record, fields: &[&[u8]]) -> Option<u8>
-    requires { length fields.now ≤ 5 }
+fn pairs_fault(section: Section, before: &Carried, r: &Record, fields: &[&[u8]]) -> Option<u8>
+    requires few { length fields.now ≤ 5 }
+    requires section { HasPairs section }
     ensures { result
         ≡ first_kind (each_pair
         (pair_conditions section before.now (counts_after section before.now r.now)) []
@@ -317,7 +330,8 @@ fn pairs_fault(section: Section, before: &[Record], r: &Record, fields: &[&[u8]]
     )
 }
 
-fn set_fault(section: Section, before: &[Record], r: &Record) -> Option<u8>
+fn set_fault(section: Section, before: &Carried, r: &Record) -> Option<u8>
+    requires { HasPairs section }
     ensures { result ≡ first_kind (set_conditions section before.now r.now) }
 {
     let count = r.fields().len();
@@ -373,7 +387,7 @@ fn is_value_of(kind: BoundKind, value: Option<&[u8]>) -> bool
     is_number_or_none(value)
 }
 
-fn value_fault(before: &[Record], counts: bool, bound: &Bound) -> Option<u8>
+fn value_fault(before: &Carried, counts: bool, bound: &Bound) -> Option<u8>
     ensures { result ≡ first_kind (value_conditions before.now counts (Some bound.now)) }
 {
     if counts && lacks_column(before, bound.column()) {
@@ -385,7 +399,7 @@ fn value_fault(before: &[Record], counts: bool, bound: &Bound) -> Option<u8>
     None
 }
 
-fn bound_fault(before: &[Record], r: &Record) -> Option<u8>
+fn bound_fault(before: &Carried, r: &Record) -> Option<u8>
     ensures { result ≡ first_kind (bound_conditions before.now r.now) }
 {
     let kind = field(r, 0);
@@ -393,18 +407,18 @@ fn bound_fault(before: &[Record], r: &Record) -> Option<u8>
         return Some(9);
     }
     match bound_in(r.fields()) {
-        Some(bound) => value_fault(before, counts_after(Section::Bounds, before, r), &bound),
+        Some(bound) => value_fault(before, bound_counts(before, r), &bound),
         None => Some(3),
     }
 }
 
 // a line
 
-fn data_fault(before: &[Record], r: &Record) -> Option<u8>
+fn data_fault(before: &Carried, r: &Record) -> Option<u8>
     ensures { result ≡ first_kind (data_conditions r.now.section deck_limits before.now r.now) }
 {
     match r.section() {
-        Section::Sense => sense_fault(before, r),
+        Section::Sense => sense_fault(before.records(), r),
         Section::Rows => row_fault(before, r),
         Section::Columns => columns_fault(before, r),
         Section::Rhs => set_fault(Section::Rhs, before, r),
@@ -414,7 +428,7 @@ fn data_fault(before: &[Record], r: &Record) -> Option<u8>
     }
 }
 
-fn fault_within(before: &[Record], r: &Record) -> Option<u8>
+fn fault_within(before: &Carried, r: &Record) -> Option<u8>
     ensures { result
         ≡ first_kind ((nat_lt 4096 r.now.bytes, 11) ∷ conditions deck_limits before.now r.now) }
 {
@@ -425,16 +439,29 @@ fn fault_within(before: &[Record], r: &Record) -> Option<u8>
         return None;
     }
     if r.is_header() {
-        return header_fault(before, r);
+        return header_fault(before.records(), r);
     }
     data_fault(before, r)
 }
 
-/// The kind of fault that the line is after the kept records before it, if it is one,
-/// in a text of at most 2^30 bytes.
-pub(crate) fn fault_after(before: &[Record], r: &Record) -> Option<u8>
-    ensures { (bytes : List ℕ) → length bytes ≤ 2 ^ 30
-        → result ≡ fault_after deck_limits bytes before.now r.now }
+/// Whether the byte past the limit stands in line n of a text with so many lines.
+fn is_over(bytes: &[u8], lines: usize, n: u64) -> bool
+    requires size { length bytes.now ≤ 2 ^ 30 + 1 }
+    requires count { lines ≡ length (lines_of bytes.now) }
+    ensures { result ≡ is_over deck_limits bytes.now n }
 {
+    bytes.len() > MOST_BYTES && lines as u64 == n
+}
+
+/// The kind of fault that the line is after the kept records before it, if it is one, in a text
+/// with so many lines.
+pub(crate) fn fault_after(bytes: &[u8], lines: usize, before: &Carried, r: &Record) -> Option<u8>
+    requires size { length bytes.now ≤ 2 ^ 30 + 1 }
+    requires count { lines ≡ length (lines_of bytes.now) }
+    ensures { result ≡ fault_after deck_limits bytes.now before.now r.now }
+{
+    if is_over(bytes, lines, r.line()) {
+        return Some(12);
+    }
     fault_within(before, r)
 }

@@ -1,5 +1,7 @@
 //! Laws of what decks mean.
 
+ghost use Rattle.cgl_mps.specs.DeckResult.{ResultsAreDecks, ResultsAreFaults, ResultsAreModels};
+ghost use Rattle.cgl_mps.specs.Front.{FrontDecides, FrontWithin};
 ghost use Rattle.cgl_mps.specs.Reading.{LowerInOrder, ReadsAlike, UpperInOrder};
 
 /// Reading line by line, with the records so far, gives what the filters over all records say.
@@ -13,4 +15,19 @@ pub fn reads_alike()
 pub fn bounds_in_order()
     ensures lower { LowerInOrder }
     ensures upper { UpperInOrder }
+{}
+
+/// The bytes up to the one past the limit tell what a deck means, whatever follows them.
+#[tactic(auto, using(crate::proofs::FrontLaws::front_within, crate::proofs::FrontLaws::front_decides))]
+pub fn front_decides()
+    ensures within { FrontWithin }
+    ensures whole { FrontDecides }
+{}
+
+/// What a deck's result tells: a model is valid, with decimals within the limits.
+#[tactic(auto, using(crate::proofs::DeckResultLaws::results_are_decks, crate::proofs::DeckResultLaws::results_are_faults))]
+pub fn deck_results()
+    ensures decks { ResultsAreDecks }
+    ensures faults { ResultsAreFaults }
+    ensures models { ResultsAreModels }
 {}

@@ -7,8 +7,9 @@ ghost use Rattle.cgl_mps.specs.Sections.{senses};
 ghost use Rattle.cgl_mps.specs.Models.{last_or, name_in, model_of};
 ghost use Rattle.cgl_mps.specs.Seen.{word};
 
+use crate::carried::Carried;
 use crate::models_columns::columns_of;
-use crate::models_rows::{row_names, rows_of};
+use crate::models_rows::rows_of;
 use crate::record::{Record, Section};
 use crate::sections::{same_bytes, sense_in};
 use cgl_model::{Model, Name, Seq};
@@ -70,14 +71,13 @@ fn maximises(records: &[Record]) -> bool
 
 /// The model of a deck without faults, from its records that have fields.
 #[tactic(auto, unfolding(crate::specs::Models::model_of))]
-pub(crate) fn model_of(alloc: Global, records: &[Record]) -> Result<Model, Memory>
-    ensures { IfOk result (λ m. m ≡ model_of records.now) }
+pub(crate) fn model_of(alloc: Global, before: &Carried) -> Result<Model, Memory>
+    ensures { IfOk result (λ m. m ≡ model_of before.now) }
 {
-    let name = copied_name(alloc, name_of(records))?;
-    let maximise = maximises(records);
-    let rows = rows_of(alloc, records)?;
-    let names = row_names(alloc, records)?;
-    let cols = columns_of(alloc, records, &names)?;
+    let name = copied_name(alloc, name_of(before.records()))?;
+    let maximise = maximises(before.records());
+    let rows = rows_of(alloc, before)?;
+    let cols = columns_of(alloc, before)?;
     Ok(Model {
         name,
         maximise,

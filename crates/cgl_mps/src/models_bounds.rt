@@ -3,14 +3,13 @@
 ghost use Rattle.std.specs.Prelude.{◌≡◌, ◌&&◌, IfOk, pos, if◌then◌else◌, [], ◌∷◌, None, Some, bytes_eq, filter, filter_map};
 ghost use Rattle.std.specs.List.{list_any, cons_option};
 ghost use Rattle.cgl_num.specs.NumberText.{whole, finite};
-ghost use Rattle.cgl_mps.specs.Records.{data_in};
-ghost use Rattle.cgl_mps.specs.Sections.{bound_in, counts_after};
 ghost use Rattle.cgl_mps.specs.Models.{makes_integer, lower_by, upper_by, is_upper, value_in, is_below_zero, lower_of, upper_of, bounds_of};
 
 use crate::bound::Bound;
+use crate::carried::Carried;
 use crate::numbers::limit;
-use crate::record::{BoundKind, Record, Section};
-use crate::sections::{bound_in, counts_after, is_data_in, same_bytes};
+use crate::record::BoundKind;
+use crate::sections::same_bytes;
 use cgl_num::{Dec, Limit, Memory};
 use std::alloc::Global;
 
@@ -147,43 +146,33 @@ pub(crate) fn makes_integer(bounds: &[Bound]) -> bool
     })
 }
 
-/// What a line says of the column's bounds, where it counts.
-fn bound_on<'a>(records: &[Record], r: &Record<'a>, column: &[u8]) -> Option<Bound<'a>>
-    ensures { cons_option result []
-        ≡ filter (λ b. bytes_eq column.now b.column) (filter_map (λ r. bound_in r.fields)
-        (filter (counts_after Section.Bounds records.now) (data_in Section.Bounds (r.now ∷ [])))) }
-{
-    if !is_data_in(Section::Bounds, r) {
-        return None;
-    }
-    let Some(bound) = bound_in(r.fields()) else {
-        return None;
-    };
-    if !same_bytes(column, bound.column()) {
-        return None;
-    }
-    // the search for the set that counts comes last, since it is the longest
-    if !counts_after(Section::Bounds, records, r) {
-        return None;
-    }
-    Some(bound)
-}
-
-/// The bounds that count for a column.
-pub(crate) fn bounds_of<'a>(
+/// Those of the bounds that are on the column.
+fn own_bounds<'a>(
     alloc: Global,
-    records: &[Record<'a>],
+    bounds: &[Bound<'a>],
     column: &[u8],
 ) -> Result<Vec<Bound<'a>>, Memory>
-    ensures { IfOk result (λ found. found.items ≡ bounds_of records.now column.now) }
+    ensures { IfOk result (λ found.
+        found.items ≡ filter (λ b. bytes_eq column.now b.column) bounds.now) }
 {
     let mut found = Vec::new(alloc);
-    for r in records {
-        if let Some(bound) = bound_on(records, r, column) {
-            let Ok(()) = found.push(bound) else {
+    for bound in bounds {
+        if same_bytes(column, bound.column()) {
+            let Ok(()) = found.push(bound.again()) else {
                 return Err(Memory);
             };
         }
     }
     Ok(found)
+}
+
+/// The bounds that count for a column.
+pub(crate) fn bounds_of<'a>(
+    alloc: Global,
+    before: &Carried<'a>,
+    column: &[u8],
+) -> Result<Vec<Bound<'a>>, Memory>
+    ensures { IfOk result (λ found. found.items ≡ bounds_of before.now column.now) }
+{
+    own_bounds(alloc, before.bounds().bounds(), column)
 }

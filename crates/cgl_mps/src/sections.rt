@@ -257,26 +257,3 @@ pub(crate) fn same_set(a: Option<&[u8]>, b: Option<&[u8]>) -> bool
         _ => false,
     }
 }
-
-/// The set of the section's first data line among the records, or of r where there is none.
-pub(crate) fn first_set<'a>(
-    section: Section,
-    records: &[Record<'a>],
-    r: &Record<'a>,
-) -> Option<&'a [u8]>
-    ensures { option_map word result ≡ set_in section (first_or r.now (data_in section records.now)) }
-{
-    for first in records {
-        if is_data_in(section, first) {
-            return set_in(section, first);
-        }
-    }
-    set_in(section, r)
-}
-
-/// Whether r's set is the one that counts, after the records.
-pub(crate) fn counts_after(section: Section, records: &[Record], r: &Record) -> bool
-    ensures { result ≡ counts_after section records.now r.now }
-{
-    same_set(first_set(section, records, r), set_in(section, r))
-}

@@ -366,7 +366,7 @@ sign-scaled (pos m) p some = not_below (m * p) 0 (omega arith) ∙ sym (not_belo
 sign-scaled (negsuc m) zero some = absurd (omega (arith, some))
 sign-scaled (negsuc m) (suc p) some = ap (λ x. lt_z (neg_ℤ (pos x)) (pos 0)) (let e : suc m * suc p ≡ suc (m * suc p + p) = omega arith in e)
 
-sign-back : (m : ℤ) → cond (lt_z m (pos 0)) (neg_ℤ (pos (unsigned_abs m))) (pos (unsigned_abs m)) ≡ m
+pub sign-back : (m : ℤ) → cond (lt_z m (pos 0)) (neg_ℤ (pos (unsigned_abs m))) (pos (unsigned_abs m)) ≡ m
 sign-back (pos m) = ap (λ b. cond b (neg_ℤ (pos m)) (pos m)) (not_below m 0 (omega arith))
 sign-back (negsuc m) = refl
 

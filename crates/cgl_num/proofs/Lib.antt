@@ -1,6 +1,7 @@
 pub mod ArithmeticLaws
 pub mod DecimalLaws
 pub mod DigitLaws
+pub mod DigitTextLaws
 pub mod FractionLaws
 pub mod GcdLaws
 pub mod NumberLaws
@@ -9,4 +10,5 @@ pub mod NumberLawsValid
 pub mod NumberLawsValue
 pub mod OrderLaws
 pub mod OverflowLaws
+pub mod ReadBackLaws
 pub mod TotalOrderLaws

@@ -59,7 +59,7 @@ size-none (d ∷ ds) b none = none-at d ds b (is_zero d) refl (size-none ds b) n
 nonzero : (d : ℕ) → 0 < d → is_zero (48 + d) ≡ false
 nonzero d some = grind (arith, nat_tests)
 
-digit-is : (d : ℕ) → d < 10 → is_digit (48 + d) ≡ true
+pub digit-is : (d : ℕ) → d < 10 → is_digit (48 + d) ≡ true
 digit-is d small = grind (arith, nat_tests)
 
 shift : (v z n : ℕ) → v * 10 ^ z ≡ n → v * 10 ^ (z + 1) ≡ 10 * n

@@ -17,7 +17,7 @@ use Rattle.cgl_num.proofs.NumberLawsRange.{reach-is, above_none, is_none, read-i
 abbrev pub given_if : Bool → Bool → Bool → Bool → Decimal → Option Decimal
 given_if n a b c d = if n && (a && b && not c) then Some d else None
 
-gives : (n a b c : Bool) (d : Decimal) → n ≡ true → a ≡ true → b ≡ true → c ≡ false → given_if n a b c d ≡ Some d
+pub gives : (n a b c : Bool) (d : Decimal) → n ≡ true → a ≡ true → b ≡ true → c ≡ false → given_if n a b c d ≡ Some d
 gives true true true false d n_is a_is b_is c_is = refl
 gives true true true true d n_is a_is b_is c_is = cc
 gives true true false c d n_is a_is b_is c_is = cc

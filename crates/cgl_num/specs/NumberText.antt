@@ -137,7 +137,3 @@ pub record IsForm (text : Word) (negative : Bool) (rest tail extent : ℕ) (powe
   pub counted : IsCounted (digits text) rest tail extent
   pub scale : power ≡ near_exponent (exponent text) -ℤ pos (length (decimals text))
   pub short : length (digits text) < 2 ^ 64
-
--- an optional sign and 1 to 24 digits
-abbrev pub is_narrow_number : Word → Bool
-is_narrow_number text = is_digits (unsigned text) && nat_le (length (unsigned text)) 24

@@ -1,6 +1,7 @@
-ghost use Rattle.std.specs.Prelude.{◌≡◌, ℕ, ℤ, pos, ◌+◌, ◌^◌, ◌<◌, ◌≤◌, ◌*ℤ◌, unsigned_abs, ◌*◌, ◌+ℤ◌, ◌↔◌, true, Some};
-ghost use Rattle.cgl_num.specs.Decimal.{Decimal, IsDecimal, decimal_of, places, scaled};
-ghost use Rattle.cgl_num.specs.NumberText.{Word, digits, is_number, limit, natural, number, reaches, scale, signed};
+ghost use Rattle.std.specs.Prelude.{◌≡◌, ℕ, ℤ, pos, ◌+◌, ◌^◌, ◌<◌, ◌≤◌, ◌*ℤ◌, unsigned_abs, ◌*◌, ◌+ℤ◌, ◌↔◌, ◌||◌, ◌==◌, true, Some, length};
+ghost use Rattle.std.specs.List.{list_all};
+ghost use Rattle.cgl_num.specs.Decimal.{Decimal, IsDecimal, decimal_of, decimal_text, places, scaled};
+ghost use Rattle.cgl_num.specs.NumberText.{Word, digits, is_digit, is_number, limit, natural, number, reaches, scale, signed};
 ghost use Rattle.cgl_num.specs.declared.number_text.Limit.TheVariants.{Finite};
 
 /// Multiples of decimals by powers of ten, and decimals of whole numbers.
@@ -24,4 +25,13 @@ pub fn number_laws()
     ensures bound_number { (text : Word) (d : Decimal) → limit text ≡ Some (Finite d) → number text ≡ Some d }
     ensures bound_small { (text : Word) (d : Decimal) (k : ℕ) → limit text ≡ Some (Finite d) → places d ≤ k
         → unsigned_abs (scaled k d) < 10 ^ (20 + k) }
+{}
+
+/// The text of a decimal is read back as the decimal.
+pub fn read_back_laws()
+    ensures number { (d : Decimal) → IsDecimal d → number (decimal_text d) ≡ Some d }
+    ensures bound { (d : Decimal) → IsDecimal d → unsigned_abs (scaled 30 d) < 10 ^ 50 → limit (decimal_text d) ≡ Some (Finite d) }
+    ensures length { (d : Decimal) → IsDecimal d → length (decimal_text d) ≤ 48 }
+    ensures bytes { (d : Decimal) → IsDecimal d → list_all (λ b. is_digit b || (b == 45 || b == 46)) (decimal_text d) ≡ true }
+    ensures some { (d : Decimal) → IsDecimal d → 0 < length (decimal_text d) }
 {}

@@ -15,7 +15,7 @@ pub use decimal::Dec;
 pub use divisor::gcd;
 pub use fraction::Frac;
 pub use laws::{divisors, factors, known_fractions, lowest_terms, rational_order};
-pub use laws_decimal::{decimal_laws, number_laws};
+pub use laws_decimal::{decimal_laws, number_laws, read_back_laws};
 pub use number_text::{Limit, NumberFault, is_number_text};
 
 /// Want of memory.

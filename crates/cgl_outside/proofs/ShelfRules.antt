@@ -28,13 +28,9 @@ pub more_read : (file front buf next : List ℕ) (at n : ℕ) → front ≡ take
 more_read file front buf next at n e len len_next p is =
     is ∙ ap (λ x. x ++ take n buf) e ∙ ap (λ x. take at file ++ x) p.piece ∙ sym (take-add at n file) ∙ ap (λ k. take k file) (sym len_next)
 
-pub whole_read : (o : Option (List ℕ)) (bytes : List ℕ) → IsSome o
-    → ((file : List ℕ) → o ≡ Some file → bytes ≡ take (length bytes) file) → ((file : List ℕ) → o ≡ Some file → length file ≤ length bytes) → o ≡ Some bytes
-whole_read None bytes some front whole = cc
-whole_read (Some file) bytes some front whole = ap (λ x. Some x) (sym (front file refl ∙ take_all (length bytes) file (whole file refl)))
-
-pub long_file : (file bytes : List ℕ) (n : ℕ) → n < length bytes → bytes ≡ take (length bytes) file → n < length file
-long_file file bytes n h e = omega (arith, ap length e, length-take (length bytes) file)
+-- a front that has all of the file
+pub front_read : (file bytes : List ℕ) (most : ℕ) → bytes ≡ take (length bytes) file → length file ≤ length bytes → length bytes ≤ most → bytes ≡ take most file
+front_read file bytes most front whole le = front ∙ take_all (length bytes) file whole ∙ sym (take_all most file (omega arith))
 
 -- a front of a front is a front
 pub take_within : (k m : ℕ) (xs : List ℕ) → (n : ℕ) × (take k (take m xs) ≡ take n xs)

@@ -8,3 +8,4 @@ pub mod Shelf
 pub mod Sink
 pub mod SureShelf
 pub mod SureSink
+pub mod Means

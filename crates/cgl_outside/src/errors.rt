@@ -1,7 +1,7 @@
 //! The errors of what reads and writes files.
 use thiserror::Error;
 
-/// What stops a reader of lines.
+/// What stops a reader of bytes.
 #[derive(Clone, Copy, Debug, PartialEq, Eq, Error)]
 pub enum FetchError {
     /// A read failed.
@@ -32,20 +32,6 @@ pub enum ReadError {
     /// A read failed.
     #[error("a read failed")]
     ReadFault,
-    /// Want of memory.
-    #[error("out of memory")]
-    Memory,
-}
-
-/// What stops the reading of a whole file.
-#[derive(Clone, Copy, Debug, PartialEq, Eq, Error)]
-pub enum WholeError {
-    /// A read failed.
-    #[error("a read failed")]
-    ReadFault,
-    /// The file has more bytes than allowed.
-    #[error("the file is too large")]
-    Large,
     /// Want of memory.
     #[error("out of memory")]
     Memory,

@@ -16,7 +16,7 @@ mod sure_sink;
 mod whole;
 
 pub use edge::{DirShelf, StdSink};
-pub use errors::{FetchError, ReadError, WholeError, WriteError};
+pub use errors::{FetchError, ReadError, WriteError};
 pub use fail::{Call, Fail};
 pub use laws::{shelf_laws, sink_laws};
 pub use mem_shelf::MemShelf;
@@ -25,4 +25,4 @@ pub use shelf::{Failed, Shelf};
 pub use sink::Sink;
 pub use sure_shelf::SureShelf;
 pub use sure_sink::SureSink;
-pub use whole::{read_whole, write_whole};
+pub use whole::{read_front, write_whole};

@@ -1,19 +1,19 @@
 //! Whole files over any shelf, in pieces.
-ghost use Rattle.std.specs.Prelude.{◌≡◌, ◌⊎◌, ◌↔◌, ℕ, List, ◌<◌, ◌≤◌, IfOk, IfErr, OnOk, OnErr, IsSome, IsTrue, IsErrOf, Some, false, length, take, vec_len};
+ghost use Rattle.std.specs.Prelude.{◌≡◌, ◌⊎◌, ◌↔◌, ℕ, List, ◌+◌, ◌<◌, ◌≤◌, IfOk, IfErr, OnOk, OnErr, IsSome, IsTrue, IsErrOf, Some, false, length, take, vec_len};
 ghost use Rattle.cgl_outside.specs.Shelf.{file_of, with_file, Lacks, Rose};
 
-use crate::{Failed, Shelf, WholeError};
+use crate::{Failed, FetchError, Shelf};
 use std::alloc::Global;
 
 /// The bytes of one read or append at most.
 const PIECE: usize = 65536;
 
 /// A buffer for one piece.
-fn piece_buffer(alloc: Global) -> Result<Vec<u8>, WholeError>
+fn piece_buffer(alloc: Global) -> Result<Vec<u8>, FetchError>
     ensures buf { IfOk result (λ buf. 0 < vec_len buf) }
-    ensures err { IfErr result (λ e. e ≡ WholeError.Memory) }
+    ensures err { IfErr result (λ e. e ≡ FetchError.Memory) }
 {
-    vec![in alloc; 0u8; PIECE].map_err(|_| WholeError::Memory)
+    vec![in alloc; 0u8; PIECE].map_err(|_| FetchError::Memory)
 }
 
 /// Reads the next piece of a file behind those that were read. Says whether there was one.
@@ -22,7 +22,7 @@ fn read_more<S: Shelf>(
     name: &str,
     buf: &mut [u8],
     bytes: &mut Vec<u8>,
-) -> Result<bool, WholeError>
+) -> Result<bool, FetchError>
     requires { 0 < length buf.old }
     ensures held { S.held shelf.new ≡ S.held shelf.old }
     ensures writes { S.failed_writes shelf.new ≡ S.failed_writes shelf.old }
@@ -32,40 +32,40 @@ fn read_more<S: Shelf>(
     ensures whole { IfOk result (λ more. (file : List ℕ) → file_of (S.held shelf.old) name.now ≡ Some file
         → more ≡ false → length file ≤ length bytes.new.items) }
     ensures found { OnOk result (IsSome (S.held shelf.old) → IsSome (file_of (S.held shelf.old) name.now)) }
-    ensures reads { IsErrOf result WholeError.ReadFault ⊎ (S.failed_reads shelf.new ≡ S.failed_reads shelf.old) }
+    ensures reads { IsErrOf result FetchError.ReadFault ⊎ (S.failed_reads shelf.new ≡ S.failed_reads shelf.old) }
     ensures later { S.failed_reads shelf.old ≤ S.failed_reads shelf.new }
     ensures excused { Lacks (S.held shelf.old) name.now → S.failed_reads shelf.new ≡ S.failed_reads shelf.old }
-    ensures read_fault { IsErrOf result WholeError.ReadFault
+    ensures read_fault { IsErrOf result FetchError.ReadFault
         → Rose (S.failed_reads shelf.old) (S.failed_reads shelf.new) ⊎ Lacks (S.held shelf.old) name.now }
-    ensures not_large { IsErrOf result WholeError.Large → ⊥ }
+    ensures within { OnOk result (length bytes.new.items ≤ length bytes.old.items + length buf.old) }
 {
     let Ok(count) = shelf.read_at(name, bytes.len() as u64, buf) else {
-        return Err(WholeError::ReadFault);
+        return Err(FetchError::ReadFault);
     };
     let Ok(()) = bytes.extend_from_slice(&buf[..count]) else {
-        return Err(WholeError::Memory);
+        return Err(FetchError::Memory);
     };
     Ok(count > 0)
 }
 
-/// All bytes of a file that has at most so many, read from its start upwards.
+/// The first bytes of a file, at most so many, read from its start upwards.
 ///
 /// # Errors
 ///
-/// `ReadFault` where a read failed, `Large` where the file has more than `most` bytes.
-pub fn read_whole<S: Shelf>(
+/// `ReadFault` where a read failed.
+pub fn read_front<S: Shelf>(
     alloc: Global,
     shelf: &mut S,
     name: &str,
     most: usize,
-) -> Result<Vec<u8>, WholeError>
-    ensures bytes { IfOk result (λ v. IsSome (S.held shelf.old) → file_of (S.held shelf.old) name.now ≡ Some v.items) }
+) -> Result<Vec<u8>, FetchError>
+    requires { 0 < most }
+    ensures front { IfOk result (λ v. (file : List ℕ) → file_of (S.held shelf.old) name.now ≡ Some file → v.items ≡ take most file) }
+    ensures found { OnOk result (IsSome (S.held shelf.old) → IsSome (file_of (S.held shelf.old) name.now)) }
     ensures small { IfOk result (λ v. length v.items ≤ most) }
-    ensures large { IsErrOf result WholeError.Large → (file : List ℕ) → file_of (S.held shelf.old) name.now ≡ Some file → most < length file }
-    ensures large_found { IsErrOf result WholeError.Large → IsSome (S.held shelf.old) → IsSome (file_of (S.held shelf.old) name.now) }
-    ensures read_fault { IsErrOf result WholeError.ReadFault
+    ensures read_fault { IsErrOf result FetchError.ReadFault
         → Rose (S.failed_reads shelf.old) (S.failed_reads shelf.new) ⊎ Lacks (S.held shelf.old) name.now }
-    ensures reads { IsErrOf result WholeError.ReadFault ⊎ (S.failed_reads shelf.new ≡ S.failed_reads shelf.old) }
+    ensures reads { IsErrOf result FetchError.ReadFault ⊎ (S.failed_reads shelf.new ≡ S.failed_reads shelf.old) }
     ensures later { S.failed_reads shelf.old ≤ S.failed_reads shelf.new }
     ensures excused { Lacks (S.held shelf.old) name.now → S.failed_reads shelf.new ≡ S.failed_reads shelf.old }
     ensures held { S.held shelf.new ≡ S.held shelf.old }
@@ -73,12 +73,13 @@ pub fn read_whole<S: Shelf>(
 {
     let mut buf = piece_buffer(alloc)?;
     let mut bytes = Vec::new(alloc);
-    'pieces: while bytes.len() <= most {
-        if !read_more(shelf, name, &mut buf, &mut bytes)? {
+    'pieces: while bytes.len() < most {
+        let room = buf.len().min(most - bytes.len());
+        if !read_more(shelf, name, &mut buf[..room], &mut bytes)? {
             return Ok(bytes);
         }
     }
-    Err(WholeError::Large)
+    Ok(bytes)
 }
 
 /// Writes a file whole, in pieces behind one another. Where a call fails, the name is as it was or

@@ -2,5 +2,6 @@ pub mod ValueLaws
 pub mod LcmLaws
 pub mod PointLaws
 pub mod ReadingLaws
-pub mod NarrowLaws
 pub mod LimitLaws
+pub mod FrontLaws
+pub mod CarriedLaws

@@ -1,5 +1,5 @@
 -- The values of a model's columns are no finer than those of the lines.
-use Rattle.std.proofs.Common.{◌≡◌, refl, sym, ap, ap₂, subst, arith, ℕ, ◌*◌, ◌/◌, ◌^◌, ◌<◌, ◌≤◌, nat_lt, nat_le, Bool, true, false, cond, ◌||◌, ◌&&◌, List, [], ◌∷◌, map, find, bytes_eq, Option, Some, None, option_map, option_and_then}
+use Rattle.std.proofs.Common.{◌≡◌, refl, sym, ap₂, subst, arith, ℕ, ◌*◌, ◌/◌, ◌^◌, ◌<◌, ◌≤◌, nat_lt, nat_le, Bool, true, false, cond, ◌||◌, ◌&&◌, List, [], ◌∷◌, map, find, Option, Some, None, option_map, option_and_then}
 use Rattle.std.specs.Prelude.{ℤ, pos, ◌<ℤ◌, unsigned_abs, unwrap_or}
 use Rattle.std.specs.Int.{◌∣◌}
 use Rattle.std.specs.List.{list_any, cons_option}
@@ -13,22 +13,10 @@ use Rattle.cgl_num.specs.NumberText.{Word, natural, unsigned, signed, number, is
 use Rattle.cgl_num.proofs.FractionLaws.{lowest_positive}
 use Rattle.cgl_num.proofs.DecimalLaws.{tens_pos}
 use Rattle.cgl_num.proofs.DigitLaws.{and-left, and-right}
-use Rattle.cgl_text.specs.Text.{is_one_of}
-use Rattle.cgl_model.specs.declared.mip.Column.{Column}
 use Rattle.cgl_where.specs.PointValue.{is_slash, numerator, denominator, is_quotient, quotient, fraction_of, value}
 use Rattle.cgl_where.specs.PointFile.{Record, field, common_denominator, numerator_over, is_too_fine, values, value_at, names_column, zero_fraction}
 use Rattle.cgl_where.specs.Limits.{ArePositive}
 use Rattle.cgl_where.proofs.LcmLaws.{lcm_first, lcm_second, lcm_least, denominator_above}
-
--- ---- names of columns
-
-pub any_name : (name : Word) (columns : List Column) → list_any (λ c. bytes_eq name c.name) columns ≡ is_one_of (map (λ c. c.name) columns) name
-any_name name [] = refl
-any_name name (c ∷ columns) = ap (λ b. bytes_eq name c.name || b) (any_name name columns)
-
-pub map_names : (h : Word → Fraction) (columns : List Column) → map (λ c. h c.name) columns ≡ map h (map (λ c. c.name) columns)
-map_names h [] = refl
-map_names h (c ∷ columns) = ap (λ l. h c.name ∷ l) (map_names h columns)
 
 -- ---- values have denominators above 0
 

@@ -1,7 +1,6 @@
 -- One reading, line by line, gives the outcome that the filters over all records say.
-use Rattle.std.proofs.Common.{◌≡◌, refl, sym, ap, ap₂, ◌∙◌, arith, ℕ, ◌+◌, ◌^◌, ◌<◌, ◌≤◌, nat_lt, Bool, true, false, cond, ◌&&◌, ◌==◌, List, [], ◌∷◌, ◌++◌, append-nil, append_assoc, length, take, drop, get_or, filter_map, option_map, Option, Some, None, Result, Ok, Err}
+use Rattle.std.proofs.Common.{◌≡◌, refl, sym, ap, ap₂, ◌∙◌, arith, ℕ, ◌+◌, ◌<◌, ◌≤◌, nat_lt, Bool, true, false, cond, List, [], ◌∷◌, ◌++◌, append-nil, append_assoc, length, drop, get_or, filter_map, option_map, Option, Some, None}
 use Rattle.std.specs.List.{cons_option}
-use Rattle.std.specs.Result.{IfOk}
 use Rattle.std.proofs.lemmas.List.{drop_more}
 use Rattle.std.proofs.lemmas.List.Elements.{filter-append, filter_map-append}
 use Rattle.std.proofs.lemmas.Bool.Decides.{nat_tests}
@@ -103,22 +102,12 @@ reads_alike most bytes m = go most bytes m (records bytes) (lines_of bytes) 1 []
 
 -- ---- the limit on bytes
 
-not_over : (bytes : List ℕ) → length bytes ≤ 2 ^ 30 → nat_lt (2 ^ 30) (length bytes) ≡ false
-not_over bytes le = grind (arith, nat_tests)
-
-not_more : (b c : Bool) (x y : Option ℕ) → b ≡ false → y ≡ cond (b && c) x y
-not_more true c x y e = cc
-not_more false c x y e = refl
-
-pub within_limits : (bytes : List ℕ) (m : Model) (before : List Record) (r : Record) → length bytes ≤ 2 ^ 30
+pub within_limits : (bytes : List ℕ) (m : Model) (before : List Record) (r : Record) → is_over most_bytes bytes r.line ≡ false
     → first_kind ((nat_lt 4096 r.bytes, 11) ∷ cond (is_kept r) (value_conditions m before r) []) ≡ fault_after most_bytes bytes m before r
 unfolding fault_after
-within_limits bytes m before r le =
-    not_more (nat_lt (2 ^ 30) (length bytes)) (length (lines_of (take (2 ^ 30 + 1) bytes)) == r.line) (Some 12) (first_kind ((nat_lt 4096 r.bytes, 11) ∷ cond (is_kept r) (value_conditions m before r) [])) (not_over bytes le)
-
-pub if_ok_then : {X E : Type 0} (P Q : X → Type 0) (r : Result X E) → ((x : X) → P x → Q x) → IfOk r P → IfOk r Q
-if_ok_then P Q (Ok x) h p = h x p
-if_ok_then P Q (Err e) h p = p
+within_limits bytes m before r within =
+    let later = first_kind ((nat_lt 4096 r.bytes, 11) ∷ cond (is_kept r) (value_conditions m before r) []) in
+    ap (λ b. cond b (Some 12) later) (sym within)
 
 -- ---- a line without fault
 
@@ -169,3 +158,6 @@ line_stops bytes m lines i line d before kind all is lt some so_far =
 pub point_reads : (bytes : List ℕ) (m : Model) (lines : List (Bor (List ℕ))) → words lines ≡ lines_of bytes → read_from most_bytes bytes m 1 [] (words lines) ≡ point_of bytes m
 unfolding point_of
 point_reads bytes m lines is = ap (read_from most_bytes bytes m 1 []) is ∙ sym (reads_alike most_bytes bytes m)
+
+pub over_at : (bytes : List ℕ) (i : ℕ) (line : List ℕ) (r : Record) (over : Bool) → r ≡ record_of (i + 1) line → over ≡ is_over most_bytes bytes (i + 1) → over ≡ is_over most_bytes bytes r.line
+over_at bytes i line r over is e = e ∙ ap (λ (q : Record). is_over most_bytes bytes q.line) (sym is)

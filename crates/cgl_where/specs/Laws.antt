@@ -1,5 +1,5 @@
 -- What holds of every point file, and of common denominators.
-use Rattle.std.specs.Prelude.{◌≡◌, ℕ, ◌≤◌, ◌<◌, ◌^◌, ℤ, pos, ◌<ℤ◌, ◌*ℤ◌, unsigned_abs, List, [], ◌∷◌}
+use Rattle.std.specs.Prelude.{◌≡◌, ℕ, ◌+◌, ◌≤◌, ◌<◌, ◌^◌, ℤ, pos, ◌<ℤ◌, ◌*ℤ◌, unsigned_abs, List, [], ◌∷◌, take}
 use Rattle.std.specs.Int.{◌∣◌}
 use Rattle.cgl_num.specs.Fraction.{Fraction}
 use Rattle.cgl_model.specs.declared.mip.Model.{Model}
@@ -37,3 +37,7 @@ AreOver n (f ∷ fs) = (numerator_over n f *ℤ f.den ≡ f.num *ℤ pos n) × A
 
 abbrev pub ValuesAreKept : Type 0
 ValuesAreKept = (fs : List Fraction) → ArePositive fs → AreOver (common_denominator fs) fs
+
+-- no more than the first 2^30 + 1 bytes of a file count
+abbrev pub FrontsMeanAll : Type 0
+FrontsMeanAll = (bytes : List ℕ) (m : Model) → point_of (take (2 ^ 30 + 1) bytes) m ≡ point_of bytes m

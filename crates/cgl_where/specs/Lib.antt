@@ -1,7 +1,8 @@
 pub mod PointValue
 pub mod PointFile
-pub mod Narrow
 pub mod Limits
 pub mod Reading
 pub mod Seen
+pub mod Carried
 pub mod Laws
+pub mod PointRead

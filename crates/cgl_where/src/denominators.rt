@@ -4,6 +4,7 @@ ghost use Rattle.std.specs.Prelude.{◌≡◌, ◌<◌, ◌≤◌, ◌^◌, ℕ,
 ghost use Rattle.std.specs.List.{list_any};
 ghost use Rattle.cgl_num.specs.Gcd.{gcd as greatest};
 ghost use Rattle.cgl_where.specs.PointFile.{common_denominator, is_too_fine, lcm, numerator_over, point_in};
+ghost use Rattle.cgl_where.specs.Carried.{grown_denominator, is_wide};
 ghost use Rattle.cgl_where.specs.Limits.{ArePositive, fitting_denominator, fitting_numerator};
 
 use cgl_model::{Point, Seq};
@@ -86,27 +87,36 @@ fn numerator_over(d: u128, f: Frac) -> Option<i128>
 
 fn is_wide(d: u128, f: Frac) -> bool
     requires { d ≤ 2 ^ 62 }
-    ensures { result ≡ nat_le (2 ^ 100) (unsigned_abs (numerator_over d f)) }
+    ensures { result ≡ is_wide d f }
 {
     numerator_over(d, f).is_none()
 }
 
 fn some_wide(d: u128, values: &[Frac]) -> bool
     requires { d ≤ 2 ^ 62 }
-    ensures { result ≡ list_any (λ f. nat_le (2 ^ 100) (unsigned_abs (numerator_over d f))) values.now }
+    ensures { result ≡ list_any (is_wide d) values.now }
 {
     values.iter().any(|f| is_wide(d, *f))
 }
 
-/// Whether the common denominator is above 2^62, or a numerator over it reaches 2^100.
-pub(crate) fn is_too_fine(values: &[Frac]) -> bool
-    requires { ArePositive values.now }
-    ensures { result ≡ is_too_fine values.now }
+/// The common denominator of values and of one value more, unless it is above 2^62 or a numerator over it
+/// reaches 2^100. The earlier numerators are looked at again only where the denominator grows.
+pub(crate) fn grown_denominator(values: &[Frac], d: u128, f: Frac) -> Option<u128>
+    requires positive { 0 < d }
+    requires within { d ≤ 2 ^ 62 }
+    requires fine { list_any (is_wide d) values.now ≡ false }
+    ensures { result ≡ grown_denominator values.now d f }
 {
-    match common_denominator(values) {
-        Some(d) => some_wide(d, values),
-        None => true,
+    let Some(next) = lcm(den(f), d) else {
+        return None;
+    };
+    if is_wide(next, f) {
+        return None;
     }
+    if next != d && some_wide(next, values) {
+        return None;
+    }
+    Some(next)
 }
 
 fn numerator_within(d: u128, f: Frac) -> i128

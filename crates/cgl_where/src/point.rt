@@ -1,12 +1,10 @@
-ghost use Rattle.std.specs.Prelude.{◌≡◌, ◌⊎◌, ℕ, ◌≤◌, ◌^◌, ◌∷◌, ◌++◌, [], length, IfOk, IfErr, OnOk};
-ghost use Rattle.cgl_where.specs.PointFile.{kept, point_of, Values, Fault};
+ghost use Rattle.std.specs.Prelude.{◌≡◌, ◌⊎◌, ℕ, ◌+◌, ◌≤◌, ◌^◌, length, IfOk, IfErr};
+ghost use Rattle.cgl_text.specs.Text.{lines_of};
+ghost use Rattle.cgl_where.specs.PointFile.{is_over, most_bytes, point_of, Values, Fault};
 
-use crate::columns::point_from;
-use crate::faults::fault_after;
-use crate::record::Record;
-use crate::records::{is_kept, record_of};
+use crate::carried::Carried;
+use crate::records::record_of;
 use cgl_model::{Model, Point};
-use cgl_num::Memory;
 use cgl_text::lines;
 use std::alloc::Global;
 use thiserror::Error;
@@ -20,22 +18,21 @@ pub enum PointError {
     Memory,
 }
 
-/// Appends a record that has fields, and drops another.
-pub(crate) fn push_kept<'a>(found: &mut Vec<Record<'a>>, r: Record<'a>) -> Result<(), Memory>
-    ensures { OnOk result (found.new.items ≡ found.old.items ++ kept (r.entry ∷ [])) }
+/// How many bytes a file may have.
+const MOST_BYTES: usize = 1_073_741_824;
+
+/// Whether the byte past the limit stands in line n of the text, which has so many lines.
+fn is_over(bytes: &[u8], lines: usize, n: u64) -> bool
+    requires within { length bytes.now ≤ 2 ^ 30 + 1 }
+    requires lines { lines ≡ length (lines_of bytes.now) }
+    ensures { result ≡ is_over most_bytes bytes.now n }
 {
-    if !is_kept(&r) {
-        return Ok(());
-    }
-    match found.push(r) {
-        Ok(()) => Ok(()),
-        Err(_) => Err(Memory),
-    }
+    bytes.len() > MOST_BYTES && lines as u64 == n
 }
 
-/// The point that the file means for the model.
+/// The point that the first 2^30 + 1 bytes of a file mean for the model, and so the whole file.
 pub fn point_of(alloc: Global, bytes: &[u8], model: &Model) -> Result<Point, PointError>
-    requires { length bytes.now ≤ 2 ^ 30 }
+    requires { length bytes.now ≤ 2 ^ 30 + 1 }
     ensures point { IfOk result (λ x. point_of bytes.now model.now ≡ Values x) }
     ensures sized { IfOk result (λ x. length x.p ≡ length model.now.cols) }
     ensures fault { IfErr result (λ e. (e ≡ PointError.Memory)
@@ -45,23 +42,23 @@ pub fn point_of(alloc: Global, bytes: &[u8], model: &Model) -> Result<Point, Poi
         return Err(PointError::Memory);
     };
     let texts = found.as_slice();
-    let mut before: Vec<Record> = Vec::new(alloc);
+    let Ok(mut carried) = Carried::new(alloc, model) else {
+        return Err(PointError::Memory);
+    };
     'lines: for (i, line) in texts.iter().enumerate() {
         let n = i as u64 + 1;
         let Ok(r) = record_of(alloc, n, line) else {
             return Err(PointError::Memory);
         };
-        let Ok(fault) = fault_after(alloc, model, before.as_slice(), &r) else {
+        let over = is_over(bytes, texts.len(), n);
+        let Ok(fault) = carried.take_line(model, &r, over) else {
             return Err(PointError::Memory);
         };
         if let Some(kind) = fault {
             return Err(PointError::Fault { line: n, kind });
         }
-        let Ok(()) = push_kept(&mut before, r) else {
-            return Err(PointError::Memory);
-        };
     }
-    match point_from(alloc, model, before.as_slice()) {
+    match carried.point(alloc, model) {
         Ok(point) => Ok(point),
         Err(_) => Err(PointError::Memory),
     }

@@ -1,13 +1,12 @@
 //! Lines of a point file as records.
 
 ghost use Rattle.std.specs.Prelude.{◌≡◌, IfOk, bytes_eq};
-ghost use Rattle.std.specs.List.{list_any};
-ghost use Rattle.cgl_where.specs.PointFile.{kept_fields, is_kept, kept, names_column, record_of, records};
+ghost use Rattle.cgl_where.specs.PointFile.{kept_fields, is_kept, record_of};
 ghost use Rattle.cgl_where.specs.Seen.{words};
 
-use crate::record::{Record, field};
+use crate::record::Record;
 use cgl_num::Memory;
-use cgl_text::{fields, lines};
+use cgl_text::fields;
 use std::alloc::Global;
 
 pub(crate) fn same_bytes(a: &[u8], b: &[u8]) -> bool
@@ -46,17 +45,4 @@ pub(crate) fn is_kept(r: &Record) -> bool
     ensures { result ≡ is_kept r.now }
 {
     !r.fields().is_empty()
-}
-
-pub(crate) fn names_column(name: &[u8], r: &Record) -> bool
-    ensures { result ≡ names_column name.now r.now }
-{
-    same_bytes(name, field(r, 0))
-}
-
-/// Whether a record names the column.
-pub(crate) fn is_named(records: &[Record], name: &[u8]) -> bool
-    ensures { result ≡ list_any (names_column name.now) records.now }
-{
-    records.iter().any(|r| names_column(name, r))
 }

@@ -15,7 +15,7 @@ fn is_digit(b: u8) -> bool
 }
 
 /// Whether the text is of one digit or more, and of nothing else.
-pub(crate) fn is_digits(text: &[u8]) -> bool
+fn is_digits(text: &[u8]) -> bool
     ensures { result ≡ is_digits text.now }
 {
     if text.is_empty() {

@@ -1,16 +1,14 @@
 //! The values in a point file.
 
-ghost use Rattle.std.specs.Prelude.{◌≡◌, ℕ, ℤ, pos, ◌<◌, ◌<ℤ◌, ◌^◌, unsigned_abs, IfOk, OnOk, ◌∷◌, ◌++◌, []};
+ghost use Rattle.std.specs.Prelude.{◌≡◌, ℕ, ℤ, pos, ◌<◌, ◌<ℤ◌, ◌^◌, unsigned_abs};
 ghost use Rattle.cgl_num.specs.Decimal.{scaled, places, IsDecimal};
 ghost use Rattle.cgl_num.specs.NumberText.{signed};
 ghost use Rattle.cgl_where.specs.PointValue.{fraction_of, quotient, value};
-ghost use Rattle.cgl_where.specs.PointFile.{values, zero_fraction};
+ghost use Rattle.cgl_where.specs.PointFile.{zero_fraction};
 
 use crate::numbers::number;
-use crate::record::{Record, field};
 use crate::texts::{denominator, has_slash, is_negative, natural, numerator, unsigned};
-use cgl_num::{Dec, Frac, Memory};
-use std::alloc::Global;
+use cgl_num::{Dec, Frac};
 
 /// The magnitude with the sign that the text begins with.
 fn signed(text: &[u8], magnitude: u128) -> i128
@@ -93,41 +91,4 @@ pub(crate) fn zero() -> Frac
     ensures { result ≡ zero_fraction }
 {
     Frac::new(0, 1)
-}
-
-/// Appends the record's value, where it has one.
-fn push_value(found: &mut Vec<Frac>, r: &Record) -> Result<(), Memory>
-    ensures { OnOk result (found.new.items ≡ found.old.items ++ values (r.now ∷ [])) }
-{
-    match value(field(r, 1)) {
-        Some(f) => match found.push(f) {
-            Ok(()) => Ok(()),
-            Err(_) => Err(Memory),
-        },
-        None => Ok(()),
-    }
-}
-
-/// The values of the records, where they have one.
-fn values(alloc: Global, records: &[Record]) -> Result<Vec<Frac>, Memory>
-    ensures { IfOk result (λ found. found.items ≡ values records.now) }
-{
-    let mut found = Vec::new(alloc);
-    for r in records {
-        push_value(&mut found, r)?;
-    }
-    Ok(found)
-}
-
-/// The values of the records and of one more.
-pub(crate) fn values_with(
-    alloc: Global,
-    records: &[Record],
-    r: &Record,
-) -> Result<Vec<Frac>, Memory>
-    ensures { IfOk result (λ found. found.items ≡ values (records.now ++ r.now ∷ [])) }
-{
-    let mut found = values(alloc, records)?;
-    push_value(&mut found, r)?;
-    Ok(found)
 }

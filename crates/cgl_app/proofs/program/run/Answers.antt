@@ -1,4 +1,4 @@
-use Rattle.cgl_app.proofs.CutLaws.{answered}
+use Rattle.cgl_app.proofs.AnsweredLaws.{answered}
 use Rattle.cgl_app.proofs.program.run.Goals as goal
 
 pub returns : goal.returns

@@ -1,6 +1,7 @@
 use Rattle.cgl_deck.proofs.ExtensionLaws.{column_count_of_extension, columns_of_extension, extension_keeps_points, extension_sized, new_rows_of_extension, old_rows_of_extension, rows_of_extension}
 use Rattle.cgl_deck.proofs.CountLaws.{names_enough}
 use Rattle.cgl_deck.proofs.ValidLaws.{extension_valid}
+use Rattle.cgl_deck.proofs.DecimalExtensionLaws.{extension_decimal}
 use Rattle.cgl_deck.proofs.laws.extension_laws.Goals as goal
 
 pub returns-clause-rows : goal.returns-clause-rows
@@ -29,3 +30,6 @@ returns-clause-names c = names_enough
 
 pub returns-clause-valid : goal.returns-clause-valid
 returns-clause-valid c = extension_valid
+
+pub returns-clause-decimal : goal.returns-clause-decimal
+returns-clause-decimal c = extension_decimal

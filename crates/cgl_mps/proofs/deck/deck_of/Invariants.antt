@@ -7,5 +7,5 @@ use Rattle.cgl_mps.proofs.deck.deck_of.Given as goal
 abbrev pub invariant-loop-line : goal.invariant-loop-line
 invariant-loop-line l = record {
   number : l.n ≡ l.line-index + 1;
-  reading : decode l.bytes ≡ read_from deck_limits l.bytes l.n l.section l.before.items (words (drop l.line-index l.line-items));
+  reading : decode l.bytes ≡ read_from deck_limits l.bytes l.n l.section l.before (words (drop l.line-index l.line-items));
 }

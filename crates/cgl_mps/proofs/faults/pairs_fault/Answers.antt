@@ -21,4 +21,4 @@ pub returns : goal.returns
 returns c =
     let judge = pair_conditions c.args.section c.args.before.now (counts_after c.args.section c.args.before.now c.args.r.now) in
     let none = judged judge [] _ _ _ _ _ c.pair_fault.ensures c.word_at.ensures c.word_at-2.ensures ∙ c.in_default.is in
-    sym (second_pair judge c.args.fields.now c.if-fields-lt4.false c.requires none ∙ judged judge _ _ _ _ _ _ c.pair_fault-2.ensures c.word_at-3.ensures c.word_at-4.ensures)
+    sym (second_pair judge c.args.fields.now c.if-fields-lt4.false c.requires.few none ∙ judged judge _ _ _ _ _ _ c.pair_fault-2.ensures c.word_at-3.ensures c.word_at-4.ensures)

@@ -4,4 +4,4 @@ use Rattle.cgl_mps.specs.Models.{row_of}
 use Rattle.cgl_mps.proofs.models_rows.rows_of.Given as goal
 
 abbrev pub invariant-loop-r : goal.invariant-loop-r
-invariant-loop-r l = l.found ++ map (row_of l.records) (rows (drop l.r-index l.records)) ≡ map (row_of l.records) (rows l.records)
+invariant-loop-r l = l.found ++ map (row_of l.before) (rows (drop l.r-index l.r-items)) ≡ map (row_of l.before) (rows l.before)

@@ -1,4 +1,5 @@
 use Rattle.cgl_where.proofs.LimitLaws.{denominators_least, points_within, values_kept}
+use Rattle.cgl_where.proofs.FrontLaws.{front_means}
 use Rattle.cgl_where.proofs.laws.known_points.Goals as goal
 
 pub returns-clause-within : goal.returns-clause-within
@@ -9,3 +10,6 @@ returns-clause-least c = denominators_least
 
 pub returns-clause-values : goal.returns-clause-values
 returns-clause-values c = values_kept
+
+pub returns-clause-fronts : goal.returns-clause-fronts
+returns-clause-fronts c = front_means

@@ -1,0 +1,61 @@
+-- The result of a whole file, from the front that was read.
+use Rattle.std.proofs.Common.{◌≡◌, refl, sym, ap, ap₂, ◌∙◌, ◌⊎◌, inl, inr, ℕ, ◌+◌, ◌^◌, List, take, Option, Some, None, IsSome, Ok, Err}
+use Rattle.cgl_outside.specs.Shelf.{Held, file_of}
+use Rattle.cgl_model.specs.declared.mip.Model.{Model}
+use Rattle.cgl_mps.specs.declared.deck.DeckError.{DeckError}
+use Rattle.cgl_mps.specs.declared.deck.DeckError.TheVariants.{Fault as fault, Memory}
+use Rattle.cgl_mps.specs.Decode.{Outcome, Deck, Fault, decode}
+use Rattle.cgl_mps.specs.DeckResult.{result_of, deck_result, ResultsAreDecks, ResultsAreFaults, ResultsAreModels}
+use Rattle.cgl_outside.specs.Means.{Means}
+use Rattle.cgl_mps.proofs.FrontLaws.{front_decides}
+use Rattle.cgl_mps.proofs.ValidLaws.{decks_valid}
+use Rattle.cgl_mps.proofs.DecimalLaws.{decks_decimal}
+
+deck_case : (o : Outcome) (m : Model) → result_of o ≡ Ok m → o ≡ Deck m
+deck_case (Deck n) m is = let same : n ≡ m = cc in ap Deck same
+deck_case (Fault line kind) m is = cc
+
+fault_case : (o : Outcome) (line kind : ℕ) → result_of o ≡ Err (line, kind) → o ≡ Fault line kind
+fault_case (Deck n) line kind is = cc
+fault_case (Fault l k) line kind is =
+    let these : ℕ × ℕ = (l, k) in
+    let those : ℕ × ℕ = (line, kind) in
+    let same : these ≡ those = cc in
+    ap (λ (pair : ℕ × ℕ). Fault pair.0 pair.1) same
+
+pub results_are_decks : ResultsAreDecks
+unfolding deck_result
+results_are_decks bytes m is = deck_case (decode bytes) m is
+
+pub results_are_faults : ResultsAreFaults
+unfolding deck_result
+results_are_faults bytes line kind is = fault_case (decode bytes) line kind is
+
+pub results_are_models : ResultsAreModels
+results_are_models bytes m is = let reads = results_are_decks bytes m is in (decks_valid bytes m reads, decks_decimal bytes m reads)
+
+pub result_is : (bytes : List ℕ) (o : Outcome) → decode bytes ≡ o → deck_result bytes ≡ result_of o
+unfolding deck_result
+result_is bytes o e = ap result_of e
+
+-- the whole file means what its front does
+
+whole_result : (file front : List ℕ) (o : Outcome) → front ≡ take (2 ^ 30 + 1) file → decode front ≡ o → deck_result file ≡ result_of o
+whole_result file front o e is = result_is file o (sym (front_decides file) ∙ ap decode (sym e) ∙ is)
+
+by_file : (held : Held) (name front : List ℕ) (o : Outcome) (found : Option (List ℕ)) → file_of held name ≡ found
+    → ((file : List ℕ) → found ≡ Some file → front ≡ take (2 ^ 30 + 1) file) → (IsSome held → IsSome found) → decode front ≡ o → Means held name deck_result (result_of o)
+by_file held name front o None at is_front there is = record { text = front; shows = (λ told. let found = there told in cc); is = result_is front o is }
+by_file held name front o (Some file) at is_front there is = record { text = file; shows = (λ told. at); is = whole_result file front o (is_front file refl) is }
+
+pub front_result : (held : Held) (name front : List ℕ) (o : Outcome)
+    → ((file : List ℕ) → file_of held name ≡ Some file → front ≡ take (2 ^ 30 + 1) file) → (IsSome held → IsSome (file_of held name)) → decode front ≡ o → Means held name deck_result (result_of o)
+front_result held name front o is_front there is = by_file held name front o (file_of held name) refl is_front there is
+
+pub front_fault : (bytes : List ℕ) (e : DeckError) (line kind : ℕ) → e ≡ fault line kind
+    → ((e ≡ Memory) ⊎ ((l : ℕ) × (k : ℕ) × (e ≡ fault l k) × (decode bytes ≡ Fault l k))) → decode bytes ≡ Fault line kind
+front_fault bytes e line kind at (inl memory) = cc
+front_fault bytes e line kind at (inr found) =
+    let lines : found.0 ≡ line = cc (at, found.2) in
+    let kinds : found.1 ≡ kind = cc (at, found.2) in
+    found.3 ∙ ap₂ Fault lines kinds

@@ -1,0 +1,11 @@
+use Rattle.std.proofs.Common.{ap, ◌∙◌}
+use Rattle.cgl_mps.specs.Carried.{splits}
+use Rattle.cgl_mps.proofs.CarriedLaws.{carried_on}
+use Rattle.cgl_mps.proofs.carried.Carried.with.Goals as goal
+
+pub invariant_of-result : goal.invariant_of-result
+invariant_of-result c =
+    let was = c.self.inside in
+    carried_on was.records.items c.push.new.self.items c.args.r was.rows c.in_ok-rows.rows was.columns c.in_ok-columns.columns was.rhs c.in_ok-rhs.rhs was.ranges c.in_ok-ranges.ranges was.bounds c.in_ok-bounds.bounds c.self.invariant
+    (ap (λ records. splits records c.args.r) c.self.view_is ∙ c.requires)
+    c.in-Ok.ensures.items c.in_ok-rows.ensures c.in_ok-columns.ensures c.in_ok-rhs.ensures c.in_ok-ranges.ensures c.in_ok-bounds.ensures

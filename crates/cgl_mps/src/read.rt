@@ -1,0 +1,46 @@
+//! Decks on a shelf.
+
+ghost use Rattle.std.specs.Prelude.{◌≡◌, ◌⊎◌, ◌≤◌, IfOk, IfErr, IsErrOf, Ok};
+ghost use Rattle.cgl_outside.specs.Shelf.{Lacks, Rose};
+ghost use Rattle.cgl_model.specs.Valid.{IsValid};
+ghost use Rattle.cgl_model.specs.HasDecimals.{HasDecimals};
+ghost use Rattle.cgl_mps.specs.DeckResult.{deck_result};
+ghost use Rattle.cgl_outside.specs.Means.{Means, MeansFault};
+
+use crate::deck::{DeckError, deck_of};
+use crate::faults::MOST_BYTES;
+use cgl_model::Model;
+use cgl_outside::{FetchError, ReadError, Shelf, read_front};
+use std::alloc::Global;
+
+/// The model that the deck of this name means.
+///
+/// # Errors
+///
+/// `Fault` where the file has a fault, at its first one, however long the file is.
+/// `ReadFault` where a read failed.
+pub fn read_deck<S: Shelf>(alloc: Global, shelf: &mut S, name: &str) -> Result<Model, ReadError>
+    ensures model { IfOk result (λ m. Means (S.held shelf.old) name.now deck_result (Ok m)) }
+    ensures valid { IfOk result IsValid }
+    ensures decimals { IfOk result HasDecimals }
+    ensures fault { IfErr result (MeansFault (S.held shelf.old) name.now deck_result) }
+    ensures read_fault { IsErrOf result ReadError.ReadFault
+        → Rose (S.failed_reads shelf.old) (S.failed_reads shelf.new) ⊎ Lacks (S.held shelf.old) name.now }
+    ensures reads { IsErrOf result ReadError.ReadFault ⊎ (S.failed_reads shelf.new ≡ S.failed_reads shelf.old) }
+    ensures later { S.failed_reads shelf.old ≤ S.failed_reads shelf.new }
+    ensures excused { Lacks (S.held shelf.old) name.now → S.failed_reads shelf.new ≡ S.failed_reads shelf.old }
+    ensures held { S.held shelf.new ≡ S.held shelf.old }
+    ensures writes { S.failed_writes shelf.new ≡ S.failed_writes shelf.old }
+{
+    // the byte past the limit tells that the file is too large, and what follows it counts for nothing
+    let bytes = match read_front(alloc, shelf, name, MOST_BYTES + 1) {
+        Ok(bytes) => bytes,
+        Err(FetchError::ReadFault) => return Err(ReadError::ReadFault),
+        Err(FetchError::Memory) => return Err(ReadError::Memory),
+    };
+    match deck_of(alloc, &bytes) {
+        Ok(model) => Ok(model),
+        Err(DeckError::Fault { line, kind }) => Err(ReadError::Fault { line, kind }),
+        Err(DeckError::Memory) => Err(ReadError::Memory),
+    }
+}

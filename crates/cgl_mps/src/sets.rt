@@ -1,0 +1,179 @@
+//! The lines so far of RHS, of RANGES and of BOUNDS: the set of the first, and what counts.
+
+ghost use Rattle.std.specs.Prelude.{◌≡◌, ◌++◌, None, [], IfOk, OnOk, option_map};
+ghost use Rattle.std.specs.List.{cons_option};
+ghost use Rattle.cgl_mps.specs.declared.record.Section.TheVariants.{Bounds};
+ghost use Rattle.cgl_mps.specs.Sections.{bound_in, same_set, set_in};
+ghost use Rattle.cgl_mps.specs.Faults.{names_row};
+ghost use Rattle.cgl_mps.specs.Seen.{word};
+ghost use Rattle.cgl_mps.specs.Carried.{after_bound, after_pairs, counting_set};
+
+use crate::bound::Bound;
+use crate::pairs::{Pair, push_pairs, some_names};
+use crate::record::{Record, Section};
+use crate::sections::{bound_in, same_set, set_fields, set_in};
+use cgl_num::Memory;
+use std::alloc::Global;
+use std::marker::Model;
+
+/// The set that counts at a line of a set, behind a first one.
+fn counting_set<'a>(first: Option<Option<&'a [u8]>>, own: Option<&'a [u8]>) -> Option<&'a [u8]>
+    ensures { option_map word result
+        ≡ counting_set (option_map (option_map word) first.entry) (option_map word own.entry) }
+{
+    match first {
+        Some(first) => first,
+        None => own,
+    }
+}
+
+/// Whether a line of a set counts, behind a first one.
+fn counts(first: Option<Option<&[u8]>>, own: Option<&[u8]>) -> bool
+    ensures { result ≡ same_set
+        (counting_set (option_map (option_map word) first.entry) (option_map word own.entry))
+        (option_map word own.entry) }
+{
+    match first {
+        Some(first) => same_set(first, own),
+        None => same_set(own, own),
+    }
+}
+
+/// The set of the first line of RHS or RANGES, and the pairs that count.
+#[derive(Drop)]
+pub(crate) struct ReadPairs<'a> {
+    set: Option<Option<&'a [u8]>>,
+    pairs: Vec<Pair<'a>>,
+}
+
+impl<'a> Model for ReadPairs<'a> {
+    ghost use Rattle.std.specs.Prelude.{option_map};
+    ghost use Rattle.cgl_mps.specs.Seen.{word};
+    ghost use Rattle.cgl_mps.specs.Carried.{ReadPairs as Said};
+
+    ghost Value = { Said };
+
+    ghost view = { λ it. record { set = option_map (option_map word) it.set; pairs = it.pairs.items } };
+}
+
+impl<'a> ReadPairs<'a> {
+    pub(crate) fn new(alloc: Global) -> ReadPairs<'a>
+        ensures { result ≡ record { set = None; pairs = [] } }
+    {
+        ReadPairs {
+            set: None,
+            pairs: Vec::new(alloc),
+        }
+    }
+
+    /// Whether a pair that counts names the row.
+    pub(crate) fn has_value(&self, row: &[u8]) -> bool
+        ensures { result ≡ names_row self.now.pairs row.now }
+    {
+        some_names(self.pairs.as_slice(), row)
+    }
+
+    pub(crate) fn pairs(&self) -> &[Pair<'a>]
+        ensures { result.now ≡ self.now.pairs }
+    {
+        self.pairs.as_slice()
+    }
+
+    /// Whether a line of the section counts behind these.
+    pub(crate) fn counts(&self, section: Section, r: &Record) -> bool
+        ensures { result
+            ≡ same_set (counting_set self.now.set (set_in section r.now)) (set_in section r.now) }
+    {
+        counts(self.set, set_in(section, r))
+    }
+
+    /// These behind one more line of the section.
+    pub(crate) fn after(self, section: Section, r: &Record<'a>) -> Result<ReadPairs<'a>, Memory>
+        ensures { IfOk result (λ read. read ≡ after_pairs section self.entry r.now) }
+    {
+        let ReadPairs { set, mut pairs } = self;
+        let own = set_in(section, r);
+        let counts = counts(set, own);
+        let set = counting_set(set, own);
+        if counts {
+            push_pairs(&mut pairs, set_fields(r))?;
+        }
+        Ok(ReadPairs {
+            set: Some(set),
+            pairs,
+        })
+    }
+}
+
+/// Appends the bound that a line says.
+fn push_bound<'a>(bounds: &mut Vec<Bound<'a>>, r: &Record<'a>) -> Result<(), Memory>
+    ensures { OnOk result (bounds.new.items
+        ≡ bounds.old.items ++ cons_option (bound_in r.now.fields) []) }
+{
+    let Some(bound) = bound_in(r.fields()) else {
+        return Ok(());
+    };
+    let Ok(()) = bounds.push(bound) else {
+        return Err(Memory);
+    };
+    Ok(())
+}
+
+/// The set of the first line of BOUNDS, and the bounds that count.
+#[derive(Drop)]
+pub(crate) struct ReadBounds<'a> {
+    set: Option<Option<&'a [u8]>>,
+    bounds: Vec<Bound<'a>>,
+}
+
+impl<'a> Model for ReadBounds<'a> {
+    ghost use Rattle.std.specs.Prelude.{option_map};
+    ghost use Rattle.cgl_mps.specs.Seen.{word};
+    ghost use Rattle.cgl_mps.specs.Carried.{ReadBounds as Said};
+
+    ghost Value = { Said };
+
+    ghost view = { λ it. record { set = option_map (option_map word) it.set; bounds = it.bounds.items } };
+}
+
+impl<'a> ReadBounds<'a> {
+    pub(crate) fn new(alloc: Global) -> ReadBounds<'a>
+        ensures { result ≡ record { set = None; bounds = [] } }
+    {
+        ReadBounds {
+            set: None,
+            bounds: Vec::new(alloc),
+        }
+    }
+
+    pub(crate) fn bounds(&self) -> &[Bound<'a>]
+        ensures { result.now ≡ self.now.bounds }
+    {
+        self.bounds.as_slice()
+    }
+
+    /// Whether a line of BOUNDS counts behind these.
+    pub(crate) fn counts(&self, r: &Record) -> bool
+        ensures { result
+            ≡ same_set (counting_set self.now.set (set_in Bounds r.now)) (set_in Bounds r.now) }
+    {
+        counts(self.set, set_in(Section::Bounds, r))
+    }
+
+    /// These behind one more line of BOUNDS.
+    pub(crate) fn after(self, r: &Record<'a>) -> Result<ReadBounds<'a>, Memory>
+        ensures { IfOk result (λ read. read ≡ after_bound self.entry r.now) }
+    {
+        let ReadBounds { set, mut bounds } = self;
+        let own = set_in(Section::Bounds, r);
+        let counts = counts(set, own);
+        let set = counting_set(set, own);
+        if counts {
+            push_bound(&mut bounds, r)?;
+        }
+        Ok(ReadBounds {
+            set: Some(set),
+            bounds,
+        })
+    }
+}

@@ -1,0 +1,389 @@
+-- What a reader carries stands for the records so far.
+use Rattle.std.proofs.Common.{◌≡◌, ◌≢◌, refl, sym, ap, ap₂, ◌∙◌, subst, arith, ℕ, zero, suc, ◌+◌, ◌^◌, ◌<◌, ◌≤◌, ◌==◌, nat_lt, Bool, true, false, not, cond, ◌||◌, List, [], ◌∷◌, ◌++◌, append-nil, map, find, length, drop, get_or, bytes_eq, Option, Some, None, is_some, is_none, option_and_then, Result, Ok, Err}
+use Rattle.std.specs.Prelude.{unsigned_abs, unwrap_or, slice_get, position, slice_set}
+use Rattle.std.specs.Option.{option_or}
+use Rattle.std.specs.Result.{IfOk}
+use Rattle.std.specs.List.{list_any, position_or_len, cons_option}
+use Rattle.std.proofs.lemmas.Option.{unwrap_or-slice_get}
+use Rattle.std.proofs.lemmas.List.{drop_all, get_or-set_same, get_or-set_other, length-map, length-set}
+use Rattle.std.proofs.lemmas.List.Elements.{filter_map-append}
+use Rattle.std.proofs.lemmas.List.Folds.{list_any-append, find-append}
+use Rattle.std.proofs.lemmas.List.Quantifiers.{position-Some}
+use Rattle.std.proofs.lemmas.Bool.Decides.{nat_tests}
+use Rattle.std.proofs.lemmas.Slice.Eq.{bytes_eq-Decides}
+use Rattle.std.proofs.lemmas.Nat.Gcd.{dvd_antisymm}
+use Rattle.cgl_num.specs.Fraction.{Fraction}
+use Rattle.cgl_num.specs.NumberText.{Word}
+use Rattle.cgl_model.specs.declared.mip.Column.{Column}
+use denote.Ref.{Bor}
+use Rattle.cgl_text.specs.Text.{lines_of}
+use Rattle.cgl_model.specs.declared.mip.Model.{Model}
+use Rattle.cgl_model.specs.Point.{Point}
+use Rattle.cgl_where.specs.Reading.{read_from}
+use Rattle.cgl_where.specs.Seen.{words}
+use Rattle.cgl_where.proofs.ReadingLaws.{line_passes, line_stops, over_at, point_reads, within_limits}
+use Rattle.cgl_where.proofs.FrontLaws.{fault_over}
+use Rattle.cgl_where.specs.declared.carried.Carried.{Carried}
+use Rattle.cgl_where.specs.PointValue.{value}
+use Rattle.cgl_where.specs.PointFile.{Record, field, is_kept, kept, names_column, column_names, values, value_at, common_denominator, lcm, is_too_fine, zero_fraction, first_kind, value_conditions, record_of, is_over, most_bytes, fault_after, point_of, point_in, Fault, Values}
+use Rattle.cgl_where.specs.Carried.{column_number, named_at, found_value, is_wide, grown_denominator, carried_conditions, carried_value, IsSound, Carries, TakesIn, FollowsLine}
+use Rattle.cgl_where.specs.Limits.{ArePositive}
+use Rattle.cgl_where.specs.Laws.{DivideAll}
+use Rattle.cgl_where.proofs.LcmLaws.{denominator_above}
+use Rattle.cgl_where.proofs.LimitLaws.{denominators_least}
+use Rattle.cgl_where.proofs.PointLaws.{values_positive, denominator_within, or-right, IsReady, point_ready}
+
+-- ---- the common denominator of one value more
+
+positive_more : (fs : List Fraction) (f : Fraction) → ArePositive (fs ++ f ∷ []) → ArePositive (f ∷ fs)
+positive_more [] f all = all
+positive_more (g ∷ fs) f all = let rest = positive_more fs f all.1 in (rest.0, (all.0, rest.1))
+
+divide_more : (n : ℕ) (fs : List Fraction) (f : Fraction) → DivideAll n (fs ++ f ∷ []) → DivideAll n (f ∷ fs)
+divide_more n [] f all = all
+divide_more n (g ∷ fs) f all = let rest = divide_more n fs f all.1 in (rest.0, (all.0, rest.1))
+
+divide_back : (n : ℕ) (fs : List Fraction) (f : Fraction) → DivideAll n (f ∷ fs) → DivideAll n (fs ++ f ∷ [])
+divide_back n [] f all = all
+divide_back n (g ∷ fs) f all = (all.1.0, divide_back n fs f (all.0, all.1.1))
+
+pub common_more : (fs : List Fraction) (f : Fraction) → ArePositive (fs ++ f ∷ []) → common_denominator (fs ++ f ∷ []) ≡ lcm (unsigned_abs f.den) (common_denominator fs)
+common_more fs f all =
+    let back = denominators_least (fs ++ f ∷ []) all in
+    let front = denominators_least (f ∷ fs) (positive_more fs f all) in
+    dvd_antisymm (back.1 (common_denominator (f ∷ fs)) (divide_back _ fs f front.0)) (front.1 (common_denominator (fs ++ f ∷ [])) (divide_more _ fs f back.0))
+
+-- ---- the limits
+
+grown_case : (a b c : Bool) (d : ℕ) → is_none (cond a None (cond b None (cond c None (Some d)))) ≡ (a || (c || (b || false)))
+grown_case true b c d = refl
+grown_case false true true d = refl
+grown_case false true false d = refl
+grown_case false false true d = refl
+grown_case false false false d = refl
+
+grown_fine : (fs : List Fraction) (d : ℕ) (f : Fraction) → ArePositive (fs ++ f ∷ []) → d ≡ common_denominator fs → is_none (grown_denominator fs d f) ≡ is_too_fine (fs ++ f ∷ [])
+grown_fine fs d f all is =
+    let n = lcm (unsigned_abs f.den) d in
+    let common : n ≡ common_denominator (fs ++ f ∷ []) = ap (lcm (unsigned_abs f.den)) is ∙ sym (common_more fs f all) in
+    grown_case (nat_lt (2 ^ 62) n) (is_wide n f) (list_any (is_wide n) fs) n
+    ∙ ap (λ b. nat_lt (2 ^ 62) n || b) (sym (list_any-append (is_wide n) fs (f ∷ [])))
+    ∙ ap (λ e. nat_lt (2 ^ 62) e || list_any (is_wide e) (fs ++ f ∷ [])) common
+
+-- ---- the number of a column
+
+passes_case : (n m : ℕ) (b c : Bool) → nat_lt n m ≡ c → nat_lt (cond (not b) (1 + n) 0) (suc m) ≡ (b || c)
+passes_case n m true c e = grind (arith, nat_tests)
+passes_case n m false true e = grind (arith, nat_tests)
+passes_case n m false false e = grind (arith, nat_tests)
+
+passes : {X : Type 0} (p : X → Bool) (xs : List X) → nat_lt (position_or_len p xs) (length xs) ≡ list_any p xs
+passes p [] = refl
+passes p (x ∷ xs) = passes_case (position_or_len p xs) (length xs) (p x) (list_any p xs) (passes p xs)
+
+none_where : (b : Bool) (n : ℕ) → is_none (cond b (Some n) None) ≡ not b
+none_where true n = refl
+none_where false n = refl
+
+no_position : {X : Type 0} (p : X → Bool) (xs : List X) → not (list_any p xs) ≡ is_none (position p xs)
+no_position p xs = ap not (sym (passes p xs)) ∙ sym (none_where (nat_lt (position_or_len p xs) (length xs)) (position_or_len p xs))
+
+some_of_none : {X : Type 0} (o : Option X) → is_none o ≡ false → (x : X) × (o ≡ Some x)
+some_of_none None e = cc
+some_of_none (Some x) e = (x, refl)
+
+prefix_map : {X Y : Type 0} (f : X → Y) (p : Y → Bool) (xs : List X) → position_or_len p (map f xs) ≡ position_or_len (λ x. p (f x)) xs
+prefix_map f p [] = refl
+prefix_map f p (x ∷ xs) = ap (λ n. cond (not (p (f x))) (1 + n) 0) (prefix_map f p xs)
+
+pub position_map : {X Y : Type 0} (f : X → Y) (p : Y → Bool) (xs : List X) → position (λ x. p (f x)) xs ≡ position p (map f xs)
+position_map f p xs =
+    ap₂ (λ n m. cond (nat_lt n m) (Some n) None) (sym (prefix_map f p xs)) (sym (length-map xs f))
+
+pub number_within : (m : Model) (name : Word) (j : ℕ) → column_number m name ≡ Some j → j < length m.cols
+number_within m name j e =
+    let at = position-Some (bytes_eq name) (column_names m) j [] e in
+    omega (arith, at.0, length-map m.cols (λ c. c.name))
+
+-- ---- the conditions
+
+cond_same : (a b : Bool) (kind x y : Option ℕ) → a ≡ b → (b ≡ false → x ≡ y) → cond a kind x ≡ cond b kind y
+cond_same true true kind x y e h = refl
+cond_same true false kind x y e h = cc
+cond_same false true kind x y e h = cc
+cond_same false false kind x y e h = h refl
+
+value_more : (before : List Record) (r : Record) (f : Fraction) → value (field 1 r) ≡ Some f → values (before ++ r ∷ []) ≡ values before ++ f ∷ []
+value_more before r f e =
+    filter_map-append (λ q. value (field 1 q)) before (r ∷ []) ∙ ap (λ o. values before ++ cons_option o []) e
+
+pub conditions_same : (m : Model) (before : List Record) (carried : Carried) (r : Record) → Carries m before carried
+    → first_kind (carried_conditions m carried r) ≡ first_kind (value_conditions m before r)
+conditions_same m before carried r c =
+    let name = field 0 r in
+    let fs = carried.values.items in
+    let d = carried.denominator in
+    cond_same (not (length r.fields == 2)) (not (length r.fields == 2)) (Some 3) _ _ refl (λ two.
+    cond_same _ _ (Some 6) _ _ (sym (no_position (bytes_eq name) (column_names m))) (λ one.
+    cond_same _ _ (Some 14) _ _ (ap is_some (c.named_are name) ∙ c.known name) (λ fresh.
+    cond_same (is_none (value (field 1 r))) (is_none (value (field 1 r))) (Some 4) _ _ refl (λ has.
+    let v = some_of_none (value (field 1 r)) has in
+    let values_more : values (before ++ r ∷ []) ≡ fs ++ v.0 ∷ [] = value_more before r v.0 v.1 ∙ ap (λ l. l ++ v.0 ∷ []) (sym c.values_are) in
+    let positive : ArePositive (fs ++ v.0 ∷ []) = subst ArePositive values_more (values_positive (before ++ r ∷ [])) in
+    cond_same _ _ (Some 13) None None
+    (ap (λ o. is_none (option_and_then (grown_denominator fs d) o)) v.1
+    ∙ grown_fine fs d v.0 positive (c.common ∙ ap common_denominator (sym c.values_are))
+    ∙ ap is_too_fine (sym values_more)) (λ fine. refl)))))
+
+-- ---- one record more
+
+test_off : (b : Bool) (kind : ℕ) (o : Option ℕ) → cond b (Some kind) o ≡ None → b ≡ false
+test_off true kind o e = cc
+test_off false kind o e = refl
+
+test_passed : (b : Bool) (kind : ℕ) (o : Option ℕ) → cond b (Some kind) o ≡ None → o ≡ None
+test_passed true kind o e = cc
+test_passed false kind o e = e
+
+pub new_name : (m : Model) (before : List Record) (r : Record) → first_kind (value_conditions m before r) ≡ None → list_any (names_column (field 0 r)) before ≡ false
+new_name m before r e = test_off _ 14 _ (test_passed _ 6 _ (test_passed _ 3 _ e))
+
+pub still_fine : (m : Model) (before : List Record) (r : Record) → first_kind (value_conditions m before r) ≡ None → is_too_fine (values (before ++ r ∷ [])) ≡ false
+still_fine m before r e = test_off _ 13 _ (test_passed _ 4 _ (test_passed _ 14 _ (test_passed _ 6 _ (test_passed _ 3 _ e))))
+
+find_case : {X : Type 0} (b : Bool) (x : X) (c : Bool) (o : Option X) → c ≡ is_some o → (b || c) ≡ is_some (cond b (Some x) o)
+find_case true x c o e = refl
+find_case false x c o e = e
+
+find_any : {X : Type 0} (p : X → Bool) (xs : List X) → list_any p xs ≡ is_some (find p xs)
+find_any p [] = refl
+find_any p (x ∷ xs) = find_case (p x) x (list_any p xs) (find p xs) (find_any p xs)
+
+none_found : {X : Type 0} (o : Option X) → is_some o ≡ false → o ≡ None
+none_found None e = refl
+none_found (Some x) e = cc
+
+found_more : (before : List Record) (r : Record) (name : Word) → found_value (before ++ r ∷ []) name
+    ≡ option_and_then (λ q. value (field 1 q)) (option_or (find (names_column name) before) (cond (names_column name r) (Some r) None))
+found_more before r name = ap (option_and_then (λ q. value (field 1 q))) (find-append (names_column name) before (r ∷ []))
+
+-- the record does not have the name
+found_other : (o : Option Record) (r : Record) (b : Bool) → b ≡ false
+    → option_and_then (λ q. value (field 1 q)) (option_or o (cond b (Some r) None)) ≡ option_and_then (λ q. value (field 1 q)) o
+found_other None r true e = cc
+found_other None r false e = refl
+found_other (Some q) r b e = refl
+
+-- the record has the name, and none before it had
+found_here : (o : Option Record) (r : Record) (b : Bool) → o ≡ None → b ≡ true
+    → option_and_then (λ q. value (field 1 q)) (option_or o (cond b (Some r) None)) ≡ value (field 1 r)
+found_here (Some q) r b none e = cc
+found_here None r true none e = refl
+found_here None r false none e = cc
+
+known_case : (o : Option Record) (r : Record) (b : Bool) (f : Fraction) → value (field 1 r) ≡ Some f → is_some (option_and_then (λ q. value (field 1 q)) o) ≡ is_some o
+    → is_some (option_and_then (λ q. value (field 1 q)) (option_or o (cond b (Some r) None))) ≡ (is_some o || (b || false))
+known_case (Some q) r b f v so_far = so_far
+known_case None r true f v so_far = ap is_some v
+known_case None r false f v so_far = refl
+
+same_name : (a b : Word) → bytes_eq a b ≡ true → a ≡ b
+same_name a b e = (bytes_eq-Decides a b).0 e
+
+is_name : (a b : Word) → a ≡ b → bytes_eq a b ≡ true
+is_name a b e = (bytes_eq-Decides a b).1 e
+
+other_number : (names : List Word) (a b : Word) (j k : ℕ) → bytes_eq a b ≡ false → position (bytes_eq b) names ≡ Some j → position (bytes_eq a) names ≡ Some k → k ≢ j
+other_number names a b j k apart at_b at_a same =
+    let p = position-Some (bytes_eq b) names j [] at_b in
+    let q = position-Some (bytes_eq a) names k [] at_a in
+    let first : a ≡ get_or names k [] = same_name a (get_or names k []) q.1 in
+    let second : b ≡ get_or names j [] = same_name b (get_or names j []) p.1 in
+    let yes : bytes_eq a b ≡ true = is_name a b (first ∙ ap (λ i. get_or names i []) same ∙ sym second) in
+    cc
+
+at_same : (named : List (Option Fraction)) (j : ℕ) (f : Fraction) → j < length named → unwrap_or (slice_get (slice_set named j (Some f)) j) None ≡ Some f
+at_same named j f lt = unwrap_or-slice_get (slice_set named j (Some f)) j None ∙ get_or-set_same named j (Some f) None lt
+
+at_other : (named : List (Option Fraction)) (j k : ℕ) (f : Fraction) → k ≢ j → unwrap_or (slice_get (slice_set named j (Some f)) k) None ≡ unwrap_or (slice_get named k) None
+at_other named j k f apart = unwrap_or-slice_get (slice_set named j (Some f)) k None ∙ get_or-set_other named j k (Some f) None apart ∙ sym (unwrap_or-slice_get named k None)
+
+named_other : (names : List Word) (named : List (Option Fraction)) (a b : Word) (j : ℕ) (f : Fraction) (o : Option ℕ) → position (bytes_eq a) names ≡ o
+    → bytes_eq a b ≡ false → position (bytes_eq b) names ≡ Some j → named_at (slice_set named j (Some f)) o ≡ named_at named o
+named_other names named a b j f None is apart at = refl
+named_other names named a b j f (Some k) is apart at = at_other named j k f (other_number names a b j k apart at is)
+
+named_case : (m : Model) (before : List Record) (named : List (Option Fraction)) (r : Record) (j : ℕ) (f : Fraction) (name : Word) → j < length named
+    → list_any (names_column (field 0 r)) before ≡ false → column_number m (field 0 r) ≡ Some j → value (field 1 r) ≡ Some f
+    → named_at named (column_number m name) ≡ found_value before name
+    → (b : Bool) → names_column name r ≡ b → named_at (slice_set named j (Some f)) (column_number m name) ≡ found_value (before ++ r ∷ []) name
+named_case m before named r j f name lt new at v so_far true is =
+    let same : name ≡ field 0 r = same_name name (field 0 r) is in
+    let none : find (names_column name) before ≡ None = none_found (find (names_column name) before) (sym (find_any (names_column name) before) ∙ ap (λ w. list_any (names_column w) before) same ∙ new) in
+    ap (λ w. named_at (slice_set named j (Some f)) (column_number m w)) same
+    ∙ ap (named_at (slice_set named j (Some f))) at
+    ∙ at_same named j f lt
+    ∙ sym v
+    ∙ sym (found_here (find (names_column name) before) r (names_column name r) none is)
+    ∙ sym (found_more before r name)
+named_case m before named r j f name lt new at v so_far false is =
+    named_other (column_names m) named name (field 0 r) j f (column_number m name) refl is at
+    ∙ so_far
+    ∙ sym (found_other (find (names_column name) before) r (names_column name r) is)
+    ∙ sym (found_more before r name)
+
+pub carries_more : (m : Model) (before : List Record) (old new : Carried) (r : Record) → Carries m before old
+    → first_kind (value_conditions m before r) ≡ None → TakesIn m r old new → Carries m (before ++ r ∷ []) new
+carries_more m before old new r c none t =
+    let j = t.column in
+    let f = t.taken in
+    let named = old.named.items in
+    let within : j < length named = omega (arith, c.counted, number_within m (field 0 r) j t.is_column) in
+    let more : values (before ++ r ∷ []) ≡ values before ++ f ∷ [] = value_more before r f t.is_value in
+    let positive : ArePositive (values before ++ f ∷ []) = subst ArePositive more (values_positive (before ++ r ∷ [])) in
+    record {
+      counted = ap length t.named_are ∙ length-set named j (Some f) ∙ c.counted;
+      named_are = λ name.
+          ap (λ l. named_at l (column_number m name)) t.named_are
+          ∙ named_case m before named r j f name within (new_name m before r none) t.is_column t.is_value (c.named_are name) (names_column name r) refl;
+      known = λ name.
+          ap is_some (found_more before r name)
+          ∙ known_case (find (names_column name) before) r (names_column name r) f t.is_value (c.known name ∙ find_any (names_column name) before)
+          ∙ sym (list_any-append (names_column name) before (r ∷ []) ∙ ap (λ b. b || (names_column name r || false)) (find_any (names_column name) before));
+      values_are = t.values_are ∙ ap (λ l. l ++ f ∷ []) c.values_are ∙ sym more;
+      common = t.common ∙ ap (lcm (unsigned_abs f.den)) c.common ∙ sym (common_more (values before) f positive) ∙ ap common_denominator (sym more);
+      fine = still_fine m before r none;
+    }
+
+-- ---- before the first record
+
+abbrev pub unnamed : Column → Option Fraction
+unnamed c = None
+
+none_at : (columns : List Column) (k : ℕ) → unwrap_or (slice_get (map unnamed columns) k) None ≡ None
+none_at [] k = refl
+none_at (c ∷ columns) zero = refl
+none_at (c ∷ columns) (suc k) = none_at columns k
+
+none_named : (columns : List Column) (o : Option ℕ) → named_at (map unnamed columns) o ≡ None
+none_named columns None = refl
+none_named columns (Some k) = none_at columns k
+
+pub carries_none : (m : Model) (carried : Carried) → carried.named.items ≡ map unnamed m.cols → carried.values.items ≡ [] → carried.denominator ≡ 1 → Carries m [] carried
+carries_none m carried named values_are one =
+    record {
+      counted = ap length named ∙ length-map m.cols unnamed;
+      named_are = λ name. ap (λ l. named_at l (column_number m name)) named ∙ none_named m.cols (column_number m name);
+      known = λ name. refl;
+      values_are = values_are;
+      common = one;
+      fine = refl;
+    }
+
+-- ---- what is carried is sound, and gives each column its value
+
+pub carries_sound : (m : Model) (before : List Record) (carried : Carried) → Carries m before carried → IsSound m carried
+carries_sound m before carried c =
+    let above : 0 < common_denominator (values before) = denominator_above (values before) (values_positive before) in
+    let within : common_denominator (values before) ≤ 2 ^ 62 = denominator_within (values before) c.fine in
+    record {
+      counted = c.counted;
+      positive = omega (arith, above, c.common);
+      within = omega (arith, within, c.common);
+      fine = ap₂ (λ n l. list_any (is_wide n) l) c.common c.values_are ∙ or-right _ _ c.fine;
+    }
+
+carried_each : (m : Model) (before : List Record) (named : List (Option Fraction)) → ((name : Word) → named_at named (column_number m name) ≡ found_value before name)
+    → (columns : List Column) → map (λ c. carried_value m named c.name) columns ≡ map (value_at before) (map (λ c. c.name) columns)
+carried_each m before named are [] = refl
+carried_each m before named are (c ∷ columns) = ap₂ (λ f l. f ∷ l) (ap (λ o. unwrap_or o zero_fraction) (are c.name)) (carried_each m before named are columns)
+
+pub carried_values : (m : Model) (before : List Record) (carried : Carried) → Carries m before carried
+    → map (λ c. carried_value m carried.named.items c.name) m.cols ≡ map (value_at before) (column_names m)
+carried_values m before carried c = carried_each m before carried.named.items c.named_are m.cols
+
+-- ---- lines as code holds them
+
+-- the later lines, after what is carried of those before them, give the outcome
+pub record Reads (bytes : List ℕ) (m : Model) (n : ℕ) (lines : List (List ℕ)) (carried : Carried) : Type 0 where
+  pub before : List Record
+  pub carries : Carries m before carried
+  pub rest : read_from most_bytes bytes m n before lines ≡ point_of bytes m
+
+pub reads_first : (bytes : List ℕ) (m : Model) (lines : List (Bor (List ℕ))) (carried : Carried) → words lines ≡ lines_of bytes → Carries m [] carried → Reads bytes m 1 (words lines) carried
+reads_first bytes m lines carried is c = record { before = []; carries = c; rest = point_reads bytes m lines is }
+
+pub reads_next : (bytes : List ℕ) (m : Model) (lines : List (Bor (List ℕ))) (i : ℕ) (line empty : Bor (List ℕ)) (r : Record) (over : Bool) (kind : Option ℕ) (old new : Carried)
+    → line ≡ get_or lines i empty → i < length lines → r ≡ record_of (i + 1) line.now → over ≡ is_over most_bytes bytes (i + 1) → kind ≡ None
+    → Reads bytes m (i + 1) (words (drop i lines)) old → FollowsLine m r over kind old new → Reads bytes m (i + 1 + 1) (words (drop (i + 1) lines)) new
+reads_next bytes m lines i line empty r over kind old new at lt is over_is none so_far follows =
+    let step = follows bytes so_far.before (over_at bytes i line.now r over is over_is) so_far.carries in
+    record {
+      before = so_far.before ++ kept (r ∷ []);
+      carries = step.1 none;
+      rest =
+          line_passes bytes m lines i line empty so_far.before (so_far.before ++ kept (r ∷ [])) (point_of bytes m) at lt
+          (ap (fault_after most_bytes bytes m so_far.before) (sym is) ∙ sym step.0 ∙ none)
+          (ap (λ q. so_far.before ++ kept (q ∷ [])) is)
+          so_far.rest;
+    }
+
+pub reads_fault : (bytes : List ℕ) (m : Model) (lines : List (Bor (List ℕ))) (i : ℕ) (line empty : Bor (List ℕ)) (r : Record) (over : Bool) (kind : Option ℕ) (found : ℕ) (old new : Carried)
+    → line ≡ get_or lines i empty → i < length lines → r ≡ record_of (i + 1) line.now → over ≡ is_over most_bytes bytes (i + 1) → kind ≡ Some found
+    → Reads bytes m (i + 1) (words (drop i lines)) old → FollowsLine m r over kind old new → point_of bytes m ≡ Fault (i + 1) found
+reads_fault bytes m lines i line empty r over kind found old new at lt is over_is some so_far follows =
+    let step = follows bytes so_far.before (over_at bytes i line.now r over is over_is) so_far.carries in
+    line_stops bytes m lines i line empty so_far.before found (point_of bytes m) at lt
+    (ap (fault_after most_bytes bytes m so_far.before) (sym is) ∙ sym step.0 ∙ some)
+    so_far.rest
+
+pub reads_ready : (bytes : List ℕ) (m : Model) (n : ℕ) (lines : List (List ℕ)) (carried : Carried) → Reads bytes m n lines carried
+    → IsReady (map (λ c. carried_value m carried.named.items c.name) m.cols)
+reads_ready bytes m n lines carried reads =
+    subst IsReady (sym (carried_values m reads.before carried reads.carries)) (point_ready reads.before (column_names m) reads.carries.fine)
+
+pub reads_last : (bytes : List ℕ) (m : Model) (n : ℕ) (lines : List (Bor (List ℕ))) (i : ℕ) (carried : Carried) → length lines ≤ i
+    → Reads bytes m n (words (drop i lines)) carried → (x : Point) → x ≡ point_in (map (λ c. carried_value m carried.named.items c.name) m.cols) → point_of bytes m ≡ Values x
+reads_last bytes m n lines i carried end reads x is =
+    sym reads.rest
+    ∙ ap (λ l. read_from most_bytes bytes m n reads.before (words l)) (drop_all i lines end)
+    ∙ ap (λ l. Values (point_in l)) (sym (carried_values m reads.before carried reads.carries))
+    ∙ ap Values (sym is)
+
+-- ---- a line
+
+pub follows_over : (m : Model) (r : Record) (over : Bool) (old new : Carried) → over ≡ true → FollowsLine m r over (Some 12) old new
+follows_over m r over old new met bytes before is c = (sym (fault_over most_bytes bytes m before r (sym is ∙ met)), (λ none. cc))
+
+passed_kind : (bytes : List ℕ) (m : Model) (before : List Record) (r : Record) (over long kept_too : Bool) → over ≡ is_over most_bytes bytes r.line → over ≡ false
+    → nat_lt 4096 r.bytes ≡ long → is_kept r ≡ kept_too → cond long (Some 11) (first_kind (cond kept_too (value_conditions m before r) [])) ≡ fault_after most_bytes bytes m before r
+passed_kind bytes m before r over long kept_too over_is within long_is kept_is =
+    ap₂ (λ b k. cond b (Some 11) (first_kind (cond k (value_conditions m before r) []))) (sym long_is) (sym kept_is)
+    ∙ within_limits bytes m before r (sym over_is ∙ within)
+
+pub follows_long : (m : Model) (r : Record) (over : Bool) (old new : Carried) → over ≡ false → 4096 < r.bytes → FollowsLine m r over (Some 11) old new
+follows_long m r over old new within long bytes before over_is c =
+    let is : nat_lt 4096 r.bytes ≡ true = grind (arith, nat_tests) in
+    (passed_kind bytes m before r over true (is_kept r) over_is within is refl, (λ none. cc))
+
+pub follows_blank : (m : Model) (r : Record) (over : Bool) (carried : Carried) → over ≡ false → r.bytes ≤ 4096 → is_kept r ≡ false → FollowsLine m r over None carried carried
+follows_blank m r over carried within short blank bytes before over_is c =
+    let is : nat_lt 4096 r.bytes ≡ false = grind (arith, nat_tests) in
+    let same : before ≡ before ++ kept (r ∷ []) = sym (ap (λ k. before ++ cond k (r ∷ []) []) blank ∙ append-nil before) in
+    let C : List Record → Type 0 = λ l. Carries m l carried in
+    (passed_kind bytes m before r over false false over_is within is blank, (λ none. subst C same c))
+
+pub follows_value : (m : Model) (r : Record) (over : Bool) (kind : Option ℕ) (old new : Carried) → over ≡ false → r.bytes ≤ 4096 → is_kept r ≡ true
+    → kind ≡ first_kind (carried_conditions m old r) → (kind ≡ None → TakesIn m r old new) → FollowsLine m r over kind old new
+follows_value m r over kind old new within short filled is takes bytes before over_is c =
+    let short_is : nat_lt 4096 r.bytes ≡ false = grind (arith, nat_tests) in
+    let same : before ++ r ∷ [] ≡ before ++ kept (r ∷ []) = sym (ap (λ k. before ++ cond k (r ∷ []) []) filled) in
+    let C : List Record → Type 0 = λ l. Carries m l new in
+    let judged : kind ≡ first_kind (value_conditions m before r) = is ∙ conditions_same m before old r c in (
+      judged ∙ passed_kind bytes m before r over false true over_is within short_is filled,
+      (λ none. subst C same (carries_more m before old new r c (sym judged ∙ none) (takes none))),
+    )
+
+pub if_ok_both : {X E : Type 0} (P Q S : X → Type 0) (r : Result X E) → ((x : X) → P x → Q x → S x) → IfOk r P → IfOk r Q → IfOk r S
+if_ok_both P Q S (Ok x) h p q = h x p q
+if_ok_both P Q S (Err e) h p q = p

@@ -1,0 +1,159 @@
+//! What a reader of a point file carries from line to line.
+
+ghost use Rattle.std.specs.Prelude.{◌≡◌, ◌<◌, ◌∷◌, ◌++◌, [], length, map, slice_set, IfOk, OnOk, None, Some, false};
+ghost use Rattle.cgl_where.specs.Carried.{Carries, FollowsLine, IsSound, TakesIn, carried_conditions, carried_value, named_at};
+ghost use Rattle.cgl_where.specs.Limits.{ArePositive};
+ghost use Rattle.cgl_where.specs.PointFile.{first_kind, is_too_fine, point_in};
+
+use crate::columns::column_number;
+use crate::denominators::{grown_denominator, point_in};
+use crate::record::{Record, field};
+use crate::records::is_kept;
+use crate::values::{value, zero};
+use cgl_model::{Column, Model, Point};
+use cgl_num::{Frac, Memory};
+use std::alloc::Global;
+
+/// The most bytes of a line.
+const LONGEST_LINE: usize = 4096;
+
+/// The value of each column that a line named, all values in order, and their least common denominator.
+#[derive(Drop)]
+pub(crate) struct Carried {
+    named: Vec<Option<Frac>>,
+    values: Vec<Frac>,
+    denominator: u128,
+}
+
+/// No value for each column.
+fn unnamed(alloc: Global, columns: &[Column]) -> Result<Vec<Option<Frac>>, Memory>
+    ensures { IfOk result (λ found. found.items ≡ map (λ c. None) columns.now) }
+{
+    let mut found = Vec::new(alloc);
+    for _column in columns {
+        let Ok(()) = found.push(None) else {
+            return Err(Memory);
+        };
+    }
+    Ok(found)
+}
+
+/// The value of the column of this number, where a line named it.
+fn named_at(named: &[Option<Frac>], number: Option<usize>) -> Option<Frac>
+    ensures { result ≡ named_at named.now number }
+{
+    let Some(j) = number else {
+        return None;
+    };
+    match named.get(j) {
+        Some(found) => *found,
+        None => None,
+    }
+}
+
+/// The value of each column.
+fn column_values(alloc: Global, model: &Model, named: &[Option<Frac>]) -> Result<Vec<Frac>, Memory>
+    ensures { IfOk result (λ found. found.items ≡ map (λ c. carried_value model.now named.now c.name) model.now.cols) }
+{
+    let columns = model.cols.as_slice();
+    let mut found = Vec::new(alloc);
+    for c in columns {
+        let number = column_number(model, c.name.as_slice());
+        let Ok(()) = found.push(named_at(named, number).unwrap_or(zero())) else {
+            return Err(Memory);
+        };
+    }
+    Ok(found)
+}
+
+impl Carried {
+    /// Before the first line.
+    pub(crate) fn new(alloc: Global, model: &Model) -> Result<Carried, Memory>
+        ensures { IfOk result (λ it. Carries model.now [] it) }
+    {
+        let Ok(named) = unnamed(alloc, model.cols.as_slice()) else {
+            return Err(Memory);
+        };
+        Ok(Carried {
+            named,
+            values: Vec::new(alloc),
+            denominator: 1,
+        })
+    }
+
+    /// Takes in the value of a column.
+    fn put(&mut self, column: usize, value: Frac, denominator: u128) -> Result<(), Memory>
+        requires { column < length self.old.named.items }
+        ensures named { OnOk result (self.new.named.items ≡ slice_set self.old.named.items column (Some value)) }
+        ensures values { OnOk result (self.new.values.items ≡ self.old.values.items ++ value ∷ []) }
+        ensures common { OnOk result (self.new.denominator ≡ denominator) }
+    {
+        let Ok(()) = self.values.push(value) else {
+            return Err(Memory);
+        };
+        self.named[column] = Some(value);
+        self.denominator = denominator;
+        Ok(())
+    }
+
+    /// Takes in the value of a line that has fields, unless the line is a fault. The kind of the fault.
+    fn take_value(&mut self, model: &Model, r: &Record) -> Result<Option<u8>, Memory>
+        requires { IsSound model.now self.old }
+        ensures kind { IfOk result (λ kind. kind ≡ first_kind (carried_conditions model.now self.old r.now)) }
+        ensures taken { IfOk result (λ kind. kind ≡ None → TakesIn model.now r.now self.old self.new) }
+    {
+        if r.fields().len() != 2 {
+            return Ok(Some(3));
+        }
+        let Some(column) = column_number(model, field(r, 0)) else {
+            return Ok(Some(6));
+        };
+        if named_at(self.named.as_slice(), Some(column)).is_some() {
+            return Ok(Some(14));
+        }
+        let Some(taken) = value(field(r, 1)) else {
+            return Ok(Some(4));
+        };
+        let Some(denominator) = grown_denominator(self.values.as_slice(), self.denominator, taken)
+        else {
+            return Ok(Some(13));
+        };
+        let Ok(()) = self.put(column, taken, denominator) else {
+            return Err(Memory);
+        };
+        Ok(None)
+    }
+
+    /// Takes in a line, unless it is a fault. The kind of the fault. The byte past the limit may stand in the line.
+    pub(crate) fn take_line(
+        &mut self,
+        model: &Model,
+        r: &Record,
+        over: bool,
+    ) -> Result<Option<u8>, Memory>
+        requires { IsSound model.now self.old }
+        ensures { IfOk result (λ kind. FollowsLine model.now r.now over kind self.old self.new) }
+    {
+        if over {
+            return Ok(Some(12));
+        }
+        if r.length() > LONGEST_LINE {
+            return Ok(Some(11));
+        }
+        if !is_kept(r) {
+            return Ok(None);
+        }
+        self.take_value(model, r)
+    }
+
+    /// The values of the columns over their least common denominator.
+    pub(crate) fn point(&self, alloc: Global, model: &Model) -> Result<Point, Memory>
+        requires positive { ArePositive (map (λ c. carried_value model.now self.now.named.items c.name) model.now.cols) }
+        requires within { is_too_fine (map (λ c. carried_value model.now self.now.named.items c.name) model.now.cols) ≡ false }
+        ensures point { IfOk result (λ x. x ≡ point_in (map (λ c. carried_value model.now self.now.named.items c.name) model.now.cols)) }
+        ensures sized { IfOk result (λ x. length x.p ≡ length model.now.cols) }
+    {
+        let values = column_values(alloc, model, self.named.as_slice())?;
+        point_in(alloc, values.as_slice())
+    }
+}

@@ -1,0 +1,49 @@
+//! Point files on a shelf.
+
+ghost use Rattle.std.specs.Prelude.{◌≡◌, ◌⊎◌, ◌≤◌, length, IfOk, IfErr, IsErrOf, Ok};
+ghost use Rattle.cgl_outside.specs.Shelf.{Lacks, Rose};
+ghost use Rattle.cgl_where.specs.PointRead.{point_result};
+ghost use Rattle.cgl_outside.specs.Means.{Means, MeansFault};
+
+use crate::{PointError, point_of};
+use cgl_model::{Model, Point};
+use cgl_outside::{FetchError, ReadError, Shelf, read_front};
+use std::alloc::Global;
+
+/// One byte more than a file may have.
+const FRONT: usize = 1_073_741_825;
+
+/// The point that a file means for the model.
+///
+/// # Errors
+///
+/// `Fault` where the file has a fault, at its first one, however long the file is.
+/// `ReadFault` where a read failed.
+pub fn read_point<S: Shelf>(
+    alloc: Global,
+    shelf: &mut S,
+    name: &str,
+    model: &Model,
+) -> Result<Point, ReadError>
+    ensures point { IfOk result (λ x. Means (S.held shelf.old) name.now (point_result model.now) (Ok x)) }
+    ensures sized { IfOk result (λ x. length x.p ≡ length model.now.cols) }
+    ensures fault { IfErr result (MeansFault (S.held shelf.old) name.now (point_result model.now)) }
+    ensures read_fault { IsErrOf result ReadError.ReadFault
+        → Rose (S.failed_reads shelf.old) (S.failed_reads shelf.new) ⊎ Lacks (S.held shelf.old) name.now }
+    ensures reads { IsErrOf result ReadError.ReadFault ⊎ (S.failed_reads shelf.new ≡ S.failed_reads shelf.old) }
+    ensures later { S.failed_reads shelf.old ≤ S.failed_reads shelf.new }
+    ensures excused { Lacks (S.held shelf.old) name.now → S.failed_reads shelf.new ≡ S.failed_reads shelf.old }
+    ensures held { S.held shelf.new ≡ S.held shelf.old }
+    ensures writes { S.failed_writes shelf.new ≡ S.failed_writes shelf.old }
+{
+    let bytes = match read_front(alloc, shelf, name, FRONT) {
+        Ok(bytes) => bytes,
+        Err(FetchError::ReadFault) => return Err(ReadError::ReadFault),
+        Err(FetchError::Memory) => return Err(ReadError::Memory),
+    };
+    match point_of(alloc, &bytes, model) {
+        Ok(point) => Ok(point),
+        Err(PointError::Fault { line, kind }) => Err(ReadError::Fault { line, kind }),
+        Err(PointError::Memory) => Err(ReadError::Memory),
+    }
+}
