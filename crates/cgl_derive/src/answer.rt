@@ -10,7 +10,7 @@ pub struct Candidate {
     pub violation: Frac,
 }
 
-/// What a generator says of an item. `Wide` is for a number that does not fit.
+/// What a generator says of an item: no cut, a cut, or `Wide` for a number that does not fit.
 #[derive(Drop)]
 pub enum Answer {
     Nothing,

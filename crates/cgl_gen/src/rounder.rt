@@ -1,4 +1,4 @@
-ghost use Rattle.std.specs.Prelude.{◌≡◌, ℕ, length, IfOk};
+ghost use Rattle.std.specs.Prelude.{◌≡◌, length, IfOk};
 ghost use Rattle.cgl_model.specs.Inequality.{AreColumnsBelow};
 ghost use Rattle.cgl_gen.specs.RoundMember.{answer_with, round_member};
 
@@ -15,8 +15,16 @@ use std::alloc::Global;
 pub struct Rounder;
 
 impl Rounder {
-    /// What it says of a side of the model at a point. `Wide` is for a number of the cut that reaches 10^24, or for a
-    /// violation that does not fit.
+    /// What it says of a side of the model at a point, which has a number for each column of the side.
+    ///
+    /// `Nothing` comes where the side has no terms or a column that is not integer, where the gcd of its coefficients
+    /// divides the right side, and where the point meets the cut. `Wide` comes where a number of the cut reaches 10^24
+    /// in magnitude, or where its violation does not fit. Otherwise the cut comes with its derivation, one rounding
+    /// step, and its violation.
+    ///
+    /// # Errors
+    ///
+    /// `Memory` where memory is refused, and for no other cause.
     pub fn give(alloc: Global, model: &Model, point: &Point, side: &Side) -> Result<Answer, Memory>
         requires columns { AreColumnsBelow (length point.now.p) side.now.ineq.terms }
         ensures { IfOk result (λ answer. answer ≡ round_member model.now point.now side.now) }

@@ -1,4 +1,4 @@
-ghost use Rattle.std.specs.Prelude.{◌≡◌, ℕ, pos, ◌<ℤ◌, unsigned_abs, IfOk};
+ghost use Rattle.std.specs.Prelude.{◌≡◌, pos, ◌<ℤ◌, unsigned_abs, IfOk};
 ghost use Rattle.cgl_gen.specs.RoundMember.{ceiling, divides, divisor_of, rounded, round_from};
 
 use cgl_derive::{Derivation, Ref, Round, Step};

@@ -3,9 +3,8 @@ use Rattle.std.proofs.Common.{◌≡◌, ℕ, zero, suc, ℤ, pos, negsuc, ◌+�
 use Rattle.std.specs.Prelude.{◌*ℤ◌, unsigned_abs, option_to_list}
 use Rattle.std.proofs.Math.Nat.{pow-le-pow_right}
 use Rattle.std.proofs.lemmas.Int.{unsigned_abs-mul}
-use Rattle.std.proofs.lemmas.List.{map-append, map_more, take_all}
-use Rattle.std.proofs.lemmas.List.Folds.{list_any-append}
-use Rattle.std.proofs.lemmas.Bool.{le-leb, leb-false, or_parts, lt-leb, or_from, or_left, or_right}
+use Rattle.std.proofs.lemmas.List.{map_more, take_all}
+use Rattle.std.proofs.lemmas.Bool.{le-leb, leb-false, or_parts, or_left, or_right}
 use Rattle.std.specs.List.{filter, list_any}
 use Rattle.std.proofs.lemmas.List.Elements.{filter-append}
 use Rattle.std.proofs.Math.Seq.{drop-cons}
@@ -56,27 +55,8 @@ scaled_size k d p e = ap unsigned_abs e ∙ unsigned_abs-mul d.m (pos (10 ^ p))
 
 -- ---- scaled coefficients
 
-pub scaled_push : (k : ℕ) (entries : List (ℕ × Decimal)) (i : ℕ) (e : ℕ × Decimal) (z : ℤ) (before after : List Term) → i < length entries → e ≡ get_or entries i e
-    → before ≡ map (scaled_term k) (take i entries) → z ≡ scaled k e.1 → after ≡ before ++ (e.0, z) ∷ [] → after ≡ map (scaled_term k) (take (i + 1) entries)
-scaled_push k entries i e z before after h is first same now =
-    let F : ℕ × Decimal → Type 0 = λ f. map (scaled_term k) (take (i + 1) entries) ≡ map (scaled_term k) (take i entries) ++ scaled_term k f ∷ [] in
-    let more = subst F (sym is) (map_more (scaled_term k) entries i e h) in
-    now ∙ ap (λ xs. xs ++ (e.0, z) ∷ []) first ∙ ap (λ y. map (scaled_term k) (take i entries) ++ (e.0, y) ∷ []) same ∙ sym more
-
-narrow_number : (z : ℤ) → unsigned_abs z < 2 ^ 100 → is_wide_number z ≡ false
-narrow_number z h = lt-leb (2 ^ 100) (unsigned_abs z) h
-
 wide_number : (z : ℤ) → 2 ^ 100 ≤ unsigned_abs z → is_wide_number z ≡ true
 wide_number z h = le-leb (2 ^ 100) (unsigned_abs z) h
-
-pub narrow_push : (before after : List Term) (j : ℕ) (z : ℤ) → list_any is_wide_number (map (λ t. t.1) before) ≡ false → unsigned_abs z < 2 ^ 100
-    → after ≡ before ++ (j, z) ∷ [] → list_any is_wide_number (map (λ t. t.1) after) ≡ false
-narrow_push before after j z first h now =
-    let one : list_any is_wide_number (z ∷ []) ≡ false = or_from _ _ (narrow_number z h) refl in
-    ap (λ xs. list_any is_wide_number (map (λ t. t.1) xs)) now
-    ∙ ap (list_any is_wide_number) (map-append (λ t. t.1) before ((j, z) ∷ []))
-    ∙ list_any-append is_wide_number (map (λ t. t.1) before) (z ∷ [])
-    ∙ or_from _ _ first one
 
 pub wide_at : (k : ℕ) (entries : List (ℕ × Decimal)) (i : ℕ) (e : ℕ × Decimal) → i < length entries → e ≡ get_or entries i e → 2 ^ 100 ≤ unsigned_abs (scaled k e.1)
     → list_any is_wide_number (map (λ t. t.1) (map (scaled_term k) entries)) ≡ true
@@ -96,10 +76,6 @@ pub narrow_at : (terms : List Term) (rest : List ℤ) (i : ℕ) (t : Term) → l
 narrow_at [] rest i t e h = absurd (omega arith)
 narrow_at (u ∷ terms) rest zero t e h = is_narrow u.1 (or_parts (is_wide_number u.1) _ e).0
 narrow_at (u ∷ terms) rest (suc i) t e h = narrow_at terms rest i t (or_parts (is_wide_number u.1) _ e).1 (omega arith)
-
-pub narrow_rest : (terms : List Term) (rest : List ℤ) → list_any is_wide_number (map (λ t. t.1) terms ++ rest) ≡ false → list_any is_wide_number rest ≡ false
-narrow_rest [] rest e = e
-narrow_rest (u ∷ terms) rest e = narrow_rest terms rest (or_parts (is_wide_number u.1) _ e).1
 
 pub narrow_first : (z : ℤ) (rest : List ℤ) → list_any is_wide_number (z ∷ rest) ≡ false → (unsigned_abs z < 2 ^ 100) × (list_any is_wide_number rest ≡ false)
 narrow_first z rest e = let parts = or_parts (is_wide_number z) _ e in (is_narrow z parts.0, parts.1)

@@ -11,3 +11,5 @@ pub mod SideListLaws
 pub mod RowListLaws
 pub mod FormListLaws
 pub mod PlaceLaws
+pub mod AbsentLaws
+pub mod RisingLaws

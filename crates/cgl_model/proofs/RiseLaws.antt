@@ -10,7 +10,7 @@ use Rattle.cgl_model.specs.Rising.{IsAboveAll}
 use Rattle.cgl_model.specs.RowEntries.{entry_at, onto_entries, row_entries_from, RiseFrom}
 use Rattle.cgl_model.proofs.ColumnLaws.{divided_below, nonzero_below}
 
-rise_lower : {A : Type 0} (j k : ℕ) (entries : List (ℕ × A)) → j ≤ k → RiseFrom k entries → RiseFrom j entries
+pub rise_lower : {A : Type 0} (j k : ℕ) (entries : List (ℕ × A)) → j ≤ k → RiseFrom k entries → RiseFrom j entries
 rise_lower j k [] h r = tt
 rise_lower j k (e ∷ entries) h r = (let first = r.0 in omega arith, r.1)
 

@@ -8,4 +8,5 @@ pub mod Feasible
 pub mod FormList
 pub mod PlaceOrder
 pub mod IntegerForm
+pub mod Absent
 pub mod Valid

@@ -1,4 +1,4 @@
-ghost use Rattle.std.specs.List.{All, AllByRecursion};
+ghost use Rattle.std.specs.List.{All};
 ghost use Rattle.std.specs.Option.{IfSome};
 ghost use Rattle.cgl_num.specs.Decimal.{IsDecimal};
 ghost use Rattle.cgl_model.specs.HasDecimals.{HasDecimals, IsDecimalColumn, IsDecimalRow};

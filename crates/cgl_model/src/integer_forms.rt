@@ -1,8 +1,9 @@
-ghost use Rattle.std.specs.Prelude.{◌≡◌, ℕ, ◌<◌, ◌≤◌, ◌^◌, [], None, Some, length, slice_index_or, IfOk, MatchOption};
+ghost use Rattle.std.specs.Prelude.{◌≡◌, ℕ, ◌<◌, ◌≤◌, ◌^◌, [], None, Some, length, slice_index_or, IfNone, IfOk, IfSome, MatchOption};
+ghost use Rattle.cgl_model.specs.Absent.{IsNowhere, IsSideAt};
 ghost use Rattle.cgl_model.specs.FormList.{form_at, is_wide_at, same_end, same_place, side_number};
 ghost use Rattle.cgl_model.specs.HasDecimals.{HasDecimals};
 ghost use Rattle.cgl_model.specs.IntegerForm.{forms_of, row_shapes, row_sides_from};
-ghost use Rattle.cgl_model.specs.PlaceOrder.{end_rank, rank, RanksRise};
+ghost use Rattle.cgl_model.specs.PlaceOrder.{end_rank, rank, IsSideList, RanksRise};
 ghost use Rattle.cgl_model.specs.RowEntries.{row_entries};
 
 use crate::row_lists::entries_of_rows;
@@ -12,7 +13,9 @@ use crate::{End, Entries, Place, Seq, Side, Terms};
 use cgl_num::Memory;
 use std::alloc::Global;
 
-/// A row that is not N in whole numbers: its coefficients, its right side and its ends.
+/// A row that is not N in whole numbers, divided by the gcd of its coefficients, its right side and its range: the
+/// coefficients by columns, those that are 0 left out, the right side and the two ends. An end that is `None` is
+/// infinite.
 #[derive(Drop)]
 pub struct RowForm {
     pub coeffs: Terms,
@@ -21,7 +24,8 @@ pub struct RowForm {
     pub up: Option<i128>,
 }
 
-/// The integer form of a row: none for an N row, or where a number of it is too large.
+/// The integer form of a row: `Free` for an N row, and `Wide` where a number of it, or an end, reaches 2^100 before it
+/// is divided.
 #[derive(Drop)]
 pub enum RowShape {
     Free,
@@ -29,7 +33,9 @@ pub enum RowShape {
     Form(RowForm),
 }
 
-/// Each end of a model that is finite, as an inequality in whole numbers.
+/// The integer forms of a model's rows, and each finite end as an inequality in whole numbers. Sides are numbered from
+/// 0 in the order of their places: for each row its lower and then its upper side, and then for each column those of
+/// its bounds. N rows and wide rows have none.
 #[derive(Drop)]
 pub struct Forms {
     rows: Seq<RowShape>,
@@ -70,7 +76,11 @@ fn forms_of_rows(alloc: Global, m: &crate::Model, lists: &[Entries]) -> Result<F
 }
 
 impl Forms {
-    /// Prepares the integer forms of all rows and all sides of a model.
+    /// Prepares the integer forms of all rows, and all sides, of a model of at most 2^20 rows and 2^20 columns.
+    ///
+    /// # Errors
+    ///
+    /// `Memory` where memory is refused, and for no other cause.
     pub fn build(alloc: Global, m: &crate::Model) -> Result<Forms, Memory>
         requires rows { length m.now.rows ≤ 2 ^ 20 }
         requires columns { length m.now.cols ≤ 2 ^ 20 }
@@ -84,20 +94,27 @@ impl Forms {
         Ok(Forms { rows, sides })
     }
 
+    /// All sides, in rising order of their places, each place at most once.
     pub fn sides(&self) -> &[Side]
         ensures { result.now ≡ self.now.sides }
     {
         self.sides.as_slice()
     }
 
-    /// The number of the side at this place; none where that end is infinite, the row is N or wide, or there is no such row or column.
+    /// The number, from 0, of the one side that stands at this place; `None` exactly where no side does. In the forms
+    /// of a model that is where the end is infinite, the row is N or wide, or there is no such row or column. Takes no
+    /// memory, and about as many steps as the number of sides has binary digits.
+    #[tactic(auto, using(crate::proofs::AbsentLaws::found_in, crate::proofs::AbsentLaws::nowhere_in))]
     pub fn find(&self, place: Place) -> Option<u32>
-        ensures { result ≡ side_number place self.now.sides }
+        ensures number { result ≡ side_number place self.now.sides }
+        ensures none { IfNone result (IsNowhere place self.now.sides) }
+        ensures found { IfSome result (IsSideAt place self.now.sides) }
+        ensures order { IsSideList self.now.sides }
     {
         number_in(self.sides.as_slice(), place)
     }
 
-    /// The integer form of a row; none where it is N or wide, or where there is no such row.
+    /// The integer form of a row; `None` exactly where it is N or wide, or where there is no such row.
     pub fn row_form(&self, row: u32) -> Option<&RowForm>
         ensures { MatchOption result (form_at self.now.rows row ≡ None) (λ form. form_at self.now.rows row ≡ Some form.now) }
     {
@@ -108,7 +125,8 @@ impl Forms {
         }
     }
 
-    /// Whether a number of the row, or an end of it, is too large for an integer form.
+    /// Whether a number of the row, or an end of it, is too large for an integer form: in whole numbers it reaches
+    /// 2^100. Not so for an N row, nor where there is no such row.
     pub fn wide(&self, row: u32) -> bool
         ensures { result ≡ is_wide_at self.now.rows row }
     {

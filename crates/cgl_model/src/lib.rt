@@ -17,7 +17,7 @@ mod side_list;
 mod violation;
 
 pub use integer_forms::{Forms, RowForm, RowShape};
-pub use laws::sides_meaning;
+pub use laws::{find_laws, sides_meaning};
 pub use linear::{Ineq, Terms, Wide};
 pub use mip::{Column, Entries, Model, Name, Row, RowKind};
 pub use places::{End, Place, Side};

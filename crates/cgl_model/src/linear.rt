@@ -28,6 +28,7 @@ impl Model for Terms {
 }
 
 impl Terms {
+    /// The empty list, which takes no memory.
     pub fn new(alloc: Global) -> Terms
         ensures { result ≡ [] }
     {
@@ -36,6 +37,7 @@ impl Terms {
         }
     }
 
+    /// The terms as pairs of a column and its coefficient.
     pub fn as_slice(&self) -> &[(u32, i128)]
         ensures value { result.now ≡ self.now }
         ensures rising { IsRising self.now }
@@ -44,6 +46,10 @@ impl Terms {
     }
 
     /// A copy of the list.
+    ///
+    /// # Errors
+    ///
+    /// `Memory` where memory for the copy is refused.
     pub fn copy(&self, alloc: Global) -> Result<Terms, Memory>
         ensures { IfOk result (λ copy. copy ≡ self.now) }
     {
@@ -53,7 +59,12 @@ impl Terms {
         Ok(Terms { items })
     }
 
-    /// Appends a term. Where memory is refused the list is as it was.
+    /// Appends a term, a column and its coefficient. The column is above all that are there, and the coefficient is
+    /// neither 0 nor the least number.
+    ///
+    /// # Errors
+    ///
+    /// `Memory` where memory is refused; the list is then as it was.
     #[tactic(auto, using(crate::specs::Rising::rising_push))]
     pub fn push(&mut self, item: (u32, i128)) -> Result<(), Memory>
         requires column { IsAboveAll self.old item.0 }
@@ -68,7 +79,7 @@ impl Terms {
     }
 }
 
-/// The sum of the terms is at least the right side.
+/// An inequality in whole numbers: the sum of the terms is at least the right side.
 #[derive(Drop)]
 pub struct Ineq {
     pub terms: Terms,

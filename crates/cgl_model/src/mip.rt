@@ -8,6 +8,7 @@ use std::alloc::Global;
 /// Bytes of a name.
 pub type Name = Seq<u8>;
 
+/// The kind of a row: N is free, L is at most its right side, G at least, and E equal to it.
 #[derive(Clone, Copy, Debug, PartialEq, Eq)]
 pub enum RowKind {
     N,
@@ -16,7 +17,8 @@ pub enum RowKind {
     E,
 }
 
-/// A row. Its ends follow from its kind, its right side and its range.
+/// A row. Its ends follow from its kind, its right side and its range, of which the magnitude counts, and in an E row
+/// the sign as well.
 #[derive(Drop)]
 pub struct Row {
     pub name: Name,
@@ -41,6 +43,7 @@ impl std::marker::Model for Entries {
 }
 
 impl Entries {
+    /// The empty list, which takes no memory.
     pub fn new(alloc: Global) -> Entries
         ensures { result ≡ [] }
     {
@@ -49,13 +52,18 @@ impl Entries {
         }
     }
 
+    /// The entries as pairs of a number and a coefficient.
     pub fn as_slice(&self) -> &[(u32, Dec)]
         ensures { result.now ≡ self.now }
     {
         self.items.as_slice()
     }
 
-    /// Appends an item. Where memory is refused the list is as it was.
+    /// Appends an entry.
+    ///
+    /// # Errors
+    ///
+    /// `Memory` where memory is refused; the list is then as it was.
     pub fn push(&mut self, item: (u32, Dec)) -> Result<(), Memory>
         ensures ok { OnOk result (self.new ≡ self.old ++ item ∷ []) }
         ensures err { OnErr result (self.new ≡ self.old) }
@@ -67,7 +75,7 @@ impl Entries {
     }
 }
 
-/// A column. A bound that is None is infinite.
+/// A column, with its lower and its upper bound and its entries. A bound that is `None` is infinite.
 #[derive(Drop)]
 pub struct Column {
     pub name: Name,
@@ -77,7 +85,7 @@ pub struct Column {
     pub entries: Entries,
 }
 
-/// A model. Its objective is its first N row.
+/// A model: its rows and its columns, each numbered from 0. Its objective is its first N row.
 #[derive(Drop)]
 pub struct Model {
     pub name: Name,

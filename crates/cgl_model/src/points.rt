@@ -22,6 +22,7 @@ impl Model for Point {
 }
 
 impl Point {
+    /// The point with these numerators, one for each column, over a denominator above 0.
     pub fn new(p: Seq<i128>, d: i128) -> Point
         requires { pos 0 <ℤ d }
         ensures numerators { result.p ≡ p }
@@ -37,6 +38,7 @@ impl Point {
         self.p.as_slice()
     }
 
+    /// The denominator of all the point's numbers, above 0.
     pub fn denominator(&self) -> i128
         ensures value { result ≡ self.now.d }
         ensures positive { pos 0 <ℤ self.now.d }

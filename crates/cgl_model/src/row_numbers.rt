@@ -3,9 +3,9 @@ ghost use Rattle.std.specs.List.{All, list_any};
 ghost use Rattle.std.specs.Option.{IfSome};
 ghost use Rattle.cgl_num.specs.Decimal.{places, scaled};
 ghost use Rattle.cgl_num.specs.Gcd.{gcd_of};
-ghost use Rattle.cgl_model.specs.IntegerForm.{is_wide_number, row_numbers, row_places, scaled_row, scaled_term};
+ghost use Rattle.cgl_model.specs.IntegerForm.{is_wide_number, row_numbers, scaled_row, scaled_term};
 
-use crate::scaling::{places_of_row, scale};
+use crate::scaling::scale;
 use crate::{Row, Seq};
 use cgl_num::{Dec, gcd};
 use std::alloc::Global;

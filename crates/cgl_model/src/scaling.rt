@@ -1,9 +1,8 @@
-ghost use Rattle.std.specs.Prelude.{◌≡◌, ℕ, ℤ, pos, ◌*ℤ◌, ◌^◌, ◌<◌, ◌≤◌, max, unsigned_abs, MatchOption};
-ghost use Rattle.std.specs.List.{AllByRecursion};
+ghost use Rattle.std.specs.Prelude.{◌≡◌, ℤ, pos, ◌*ℤ◌, ◌^◌, ◌<◌, ◌≤◌, max, unsigned_abs, MatchOption};
 ghost use Rattle.std.specs.Option.{IfSome};
-ghost use Rattle.cgl_num.specs.Decimal.{IsDecimal, places, places_in, scaled, scaled_by};
+ghost use Rattle.cgl_num.specs.Decimal.{IsDecimal, places, scaled};
 ghost use Rattle.cgl_num.specs.Fraction.{IsLowest};
-ghost use Rattle.cgl_model.specs.IntegerForm.{bound_of as bound, is_wide_number, row_places};
+ghost use Rattle.cgl_model.specs.IntegerForm.{bound_of as bound, row_places};
 
 use crate::Row;
 use cgl_num::{Dec, Frac};

@@ -4,7 +4,7 @@ use cgl_num::Memory;
 use std::alloc::Global;
 use std::marker::Model;
 
-/// A list.
+/// A list that owns its items.
 #[derive(Debug, Drop)]
 pub struct Seq<T> {
     items: Vec<T>,
@@ -22,7 +22,7 @@ impl<T> Model for Seq<T> {
 }
 
 impl<T> Seq<T> {
-    /// The empty list.
+    /// The empty list, which takes no memory.
     pub fn new(alloc: Global) -> Seq<T>
         ensures { result ≡ [] }
     {
@@ -46,6 +46,7 @@ impl<T> Seq<T> {
         items
     }
 
+    /// The items in order.
     pub fn as_slice(&self) -> &[T]
         ensures { result.now ≡ self.now }
     {
@@ -54,7 +55,11 @@ impl<T> Seq<T> {
 }
 
 impl<T: Drop> Seq<T> {
-    /// Appends an item. Where memory is refused the list is as it was, and the item is dropped.
+    /// Appends an item.
+    ///
+    /// # Errors
+    ///
+    /// `Memory` where memory is refused; the list is then as it was, and the item is dropped.
     pub fn push(&mut self, item: T) -> Result<(), Memory>
         ensures ok { OnOk result (self.new ≡ self.old ++ item ∷ []) }
         ensures err { OnErr result (self.new ≡ self.old) }

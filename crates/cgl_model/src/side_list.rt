@@ -1,8 +1,6 @@
 ghost use Rattle.std.specs.Prelude.{◌≡◌, ◌++◌, ◌∷◌, [], ◌<◌, ◌≤◌, ◌^◌, length, unsigned_abs, Option, IfOk, OnOk};
 ghost use Rattle.std.specs.Option.{IfSome};
-ghost use Rattle.cgl_num.specs.Decimal.{Decimal};
-ghost use Rattle.cgl_num.specs.Fraction.{IsLowest};
-ghost use Rattle.cgl_model.specs.IntegerForm.{bound_of as bound, column_sides, column_sides_from, lower_bound_side, lower_side, negated, row_sides, row_sides_from, upper_bound_side, upper_side};
+ghost use Rattle.cgl_model.specs.IntegerForm.{bound_of as bound, column_sides, column_sides_from, lower_bound_side, lower_side, negated, row_sides, upper_bound_side, upper_side};
 ghost use Rattle.cgl_model.specs.IntegerForm.{IsNarrowShape};
 ghost use Rattle.cgl_model.specs.Rising.{IsCoefficient};
 

@@ -1,5 +1,4 @@
-ghost use Rattle.std.specs.Prelude.{◌≡◌, ℕ, ℤ, pos, ◌+ℤ◌, ◌*ℤ◌, ◌+◌, ◌*◌, ◌<◌, ◌≤◌, ◌^◌, unsigned_abs, length, IfOk, OnOk, OnErr};
-ghost use Rattle.std.specs.List.{AllByRecursion};
+ghost use Rattle.std.specs.Prelude.{◌≡◌, ℤ, ◌+ℤ◌, ◌*ℤ◌, ◌+◌, ◌*◌, ◌<◌, ◌≤◌, ◌^◌, unsigned_abs, length, IfOk, OnOk, OnErr};
 ghost use Rattle.cgl_model.specs.Inequality.{AreColumnsBelow, magnitudes_at, sum_at, violation, violation_magnitude};
 
 use crate::{Ineq, Point, Wide};
@@ -56,8 +55,13 @@ fn sum_of(terms: &[(u32, i128)], numbers: &[i128], magnitude: u128) -> Result<Pr
 }
 
 impl Ineq {
-    /// By how much the point violates the inequality: its right side less its sum.
-    /// `Wide` where the magnitudes of the products in it reach 2^127 together.
+    /// By how much the point, which has a number for each column of the inequality, violates it: its right side less
+    /// its sum at the point, in lowest terms. It is above 0 exactly where the point does not meet the inequality.
+    ///
+    /// # Errors
+    ///
+    /// `Wide` exactly where the magnitude of the right side times the denominator, and those of the products of the
+    /// coefficients with the numerators, reach 2^127 together.
     pub fn violation(&self, x: &Point) -> Result<Frac, Wide>
         requires columns { AreColumnsBelow (length x.now.p) self.now.terms }
         ensures ok { IfOk result (λ v. v ≡ violation self.now x.now) }

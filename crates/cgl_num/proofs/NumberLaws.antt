@@ -1,15 +1,14 @@
 -- Digits one by one.
 use Rattle.std.proofs.Common.{◌≡◌, ◌≢◌, refl, sym, ap, subst, ◌∙◌, arith, ℕ, suc, ◌+◌, ◌-◌, ◌*◌, ◌%◌, ◌^◌, ◌<◌, ◌≤◌, Bool, true, false, cond, not, ◌&&◌, ◌||◌, drop, take, get_or, append_assoc, Option, Some, None, IfSome, [], ◌∷◌, ◌++◌, length, pow-suc, pow-add, add-one, mul-le-mul_right, eqb, ⊎_elim, length-append, length-take}
 use Rattle.std.specs.List.{list_all, list_any, prefix_len, suffix_len, position_or_len, after_first}
-use Rattle.std.specs.Prelude.{pos, unsigned_abs}
-use Rattle.std.proofs.Math.IntN.{neg_ℤ}
+use Rattle.std.specs.Prelude.{pos}
 use Rattle.std.proofs.lemmas.Bool.{lt-ltb, cases_lt}
 use Rattle.std.proofs.lemmas.Bool.Decides.{nat_tests}
 use Rattle.std.proofs.lemmas.List.{reverse-append, drop_all, take_more}
 use Rattle.std.proofs.lemmas.List.Sums.{fold-append, prefix_len-le-length}
 use Rattle.std.proofs.lemmas.List.Folds.{list_all-append}
-use Rattle.cgl_num.specs.NumberText.{Word, natural, is_digit, is_digits, is_zero, size, unsigned, is_negative, near, is_point, is_exponent_letter, near_exponent, has_exponent_form, digits_in, IsCounted}
-use Rattle.cgl_num.proofs.DecimalLaws.{tens_mono, sign_keeps}
+use Rattle.cgl_num.specs.NumberText.{Word, natural, is_digit, is_digits, is_zero, size, unsigned, is_point, is_exponent_letter, near_exponent, has_exponent_form, digits_in, IsCounted}
+use Rattle.cgl_num.proofs.DecimalLaws.{tens_mono}
 
 pub natural-push : (ds : Word) (b : ℕ) → natural (ds ++ b ∷ []) ≡ 10 * natural ds + (b - 48)
 natural-push ds b = fold-append (λ n d. 10 * n + (d - 48)) 0 ds (b ∷ [])
@@ -203,9 +202,3 @@ around text point v z s at is behind =
 
 pub above_zero : (n : ℕ) → false ≡ eqb n 0 → 0 < n
 above_zero n e = grind (arith, nat_tests)
-
-pub near_small : (text : Word) → unsigned_abs (near_exponent text) ≤ 10 ^ 30
-near_small text = small (is_negative text) (natural (unsigned text))
-  where
-    small : (negative : Bool) (n : ℕ) → unsigned_abs (cond negative (neg_ℤ (pos (near n))) (pos (near n))) ≤ 10 ^ 30
-    small negative n = omega (arith, sign_keeps negative (near n))

@@ -30,9 +30,6 @@ at_scale negative e less = cond negative (neg_ℤ (pos e)) (pos e) -ℤ pos less
 near_is : (e : ℕ) → e ≤ 10 ^ 30 → near e ≡ e
 near_is e h = omega (arith, h)
 
-far_is : (e : ℕ) → 10 ^ 30 < e → near e ≡ 10 ^ 30
-far_is e h = omega (arith, h)
-
 pub most_z : (a b : ℤ) → a ≤ℤ b → int_le a b ≡ true
 most_z a b h = grind (arith, ints)
 

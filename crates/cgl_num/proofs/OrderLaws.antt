@@ -1,5 +1,5 @@
 -- The order of fractions, by their whole parts and their rests.
-use Rattle.std.proofs.Common.{◌≡◌, ◌⊎◌, ℕ, ◌+◌, ◌*◌, ◌/◌, ◌%◌, ◌≤◌, ◌<◌, ap, sym, ◌∙◌, arith, ⊎_elim, inl, inr, suc, refl, subst}
+use Rattle.std.proofs.Common.{◌≡◌, ◌⊎◌, ℕ, ◌+◌, ◌*◌, ◌/◌, ◌%◌, ◌≤◌, ◌<◌, ap, sym, ◌∙◌, arith, ⊎_elim, inl, inr, refl, subst}
 use Rattle.std.specs.Prelude.{ℤ, pos, negsuc, ◌+ℤ◌, ◌-ℤ◌, ◌*ℤ◌, ◌≤ℤ◌, ◌<ℤ◌, unsigned_abs}
 use Rattle.std.specs.Int.{int_div_euclid, int_rem_euclid}
 use Rattle.std.specs.Ordering.{nat_cmp}
@@ -69,9 +69,6 @@ by_no_rest a b c d h k e none =
     ∙ by_rests a b c d e
 
 -- ---- whole and fractional part
-
-times_negated : (q d : ℕ) → negsuc q *ℤ pos d ≡ neg_ℤ (pos (suc q * d))
-times_negated q d = refl
 
 floor_parts : (a d : ℤ) → pos 0 <ℤ d → ((int_div_euclid a d *ℤ d) ≤ℤ a) × (a <ℤ ((int_div_euclid a d +ℤ pos 1) *ℤ d))
 floor_parts (pos a) (pos d) h =

@@ -81,14 +81,6 @@ sum_fits f h g x y t s p is narrow left right s_is low =
 abbrev pub opposite : Fraction → Fraction
 opposite h = record { num = neg_ℤ h.num; den = h.den }
 
-pub opposite_lowest : (h : Fraction) → IsLowest h → IsLowest (opposite h)
-opposite_lowest h low = record {
-  positive = low.positive;
-  narrow_num = rw (abs_negated h.num) low.narrow_num;
-  narrow_den = low.narrow_den;
-  lowest = rw (abs_negated h.num) low.lowest;
-}
-
 pub plus_opposite : (f h : Fraction) → plus f (opposite h) ≡ minus f h
 plus_opposite f h =
     let is : f.num *ℤ h.den +ℤ neg_ℤ h.num *ℤ f.den ≡ f.num *ℤ h.den -ℤ h.num *ℤ f.den = rw (neg-*ℤ h.num f.den) (omega (arith, ints)) in

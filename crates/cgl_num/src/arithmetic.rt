@@ -1,11 +1,11 @@
-ghost use Rattle.std.specs.Prelude.{◌≡◌, ◌⊎◌, ℕ, ℤ, pos, neg_ℤ, ◌+ℤ◌, ◌*ℤ◌, ◌<ℤ◌, ◌<◌, ◌≤◌, ◌^◌, ◌↔◌, unsigned_abs, int_div, MatchOption, IfOk, IfErr, IsErr};
+ghost use Rattle.std.specs.Prelude.{◌≡◌, ◌⊎◌, ℤ, pos, neg_ℤ, ◌+ℤ◌, ◌*ℤ◌, ◌<ℤ◌, ◌<◌, ◌^◌, ◌↔◌, unsigned_abs, int_div, MatchOption, IfOk, IfErr, IsErr};
 ghost use Rattle.cgl_num.specs.Gcd.{gcd as greatest};
 ghost use Rattle.cgl_num.specs.Fraction.{IsLowest, lowest};
 ghost use Rattle.cgl_num.specs.FractionArithmetic.{IsWide, IsWideFraction, SumOverflows, DifferenceOverflows, IsSum, plus, minus, times, over, reciprocal};
 
 use crate::{Frac, gcd};
 
-/// An operation on two fractions.
+/// An operation on two fractions: their sum, difference, product or quotient.
 #[derive(Clone, Copy, Debug, PartialEq, Eq)]
 pub enum Op {
     Add,
@@ -23,8 +23,12 @@ pub struct Overflow {
 }
 
 impl Frac {
-    /// The exact sum; `Overflow` where a numerator over the least common denominator, their sum or the reduced
-    /// denominator reaches 2^127.
+    /// The exact sum, in lowest terms.
+    ///
+    /// # Errors
+    ///
+    /// `Overflow` exactly where a numerator over the least common denominator, their sum or the reduced denominator
+    /// reaches 2^127 in magnitude.
     pub fn add(self, o: Frac) -> Result<Frac, Overflow>
         ensures value { IfOk result (λ s. (s ≡ plus self o) × IsLowest s) }
         ensures error { IfErr result (λ e. e ≡ record { op = Op.Add; a = self; b = o }) }
@@ -40,8 +44,12 @@ impl Frac {
         Ok(sum)
     }
 
-    /// The exact difference; `Overflow` where a numerator over the least common denominator, their difference or the
-    /// reduced denominator reaches 2^127.
+    /// The exact difference, in lowest terms.
+    ///
+    /// # Errors
+    ///
+    /// `Overflow` exactly where a numerator over the least common denominator, their difference or the reduced
+    /// denominator reaches 2^127 in magnitude.
     pub fn sub(self, o: Frac) -> Result<Frac, Overflow>
         ensures value { IfOk result (λ s. (s ≡ minus self o) × IsLowest s) }
         ensures error { IfErr result (λ e. e ≡ record { op = Op.Sub; a = self; b = o }) }
@@ -58,7 +66,11 @@ impl Frac {
         Ok(difference)
     }
 
-    /// The exact product; `Overflow` exactly where it does not fit in lowest terms.
+    /// The exact product, in lowest terms.
+    ///
+    /// # Errors
+    ///
+    /// `Overflow` exactly where its numerator or its denominator reaches 2^127 in magnitude, in lowest terms.
     pub fn mul(self, o: Frac) -> Result<Frac, Overflow>
         ensures value { IfOk result (λ p. (p ≡ times self o) × IsLowest p) }
         ensures error { IfErr result (λ e. e ≡ record { op = Op.Mul; a = self; b = o }) }
@@ -74,7 +86,11 @@ impl Frac {
         Ok(product)
     }
 
-    /// The exact quotient by a fraction that is not 0; `Overflow` exactly where it does not fit in lowest terms.
+    /// The exact quotient by a fraction that is not 0, in lowest terms.
+    ///
+    /// # Errors
+    ///
+    /// `Overflow` exactly where its numerator or its denominator reaches 2^127 in magnitude, in lowest terms.
     pub fn div(self, o: Frac) -> Result<Frac, Overflow>
         requires divisor { o.num ≡ pos 0 → ⊥ }
         ensures value { IfOk result (λ q. (q ≡ over self o) × IsLowest q) }

@@ -131,7 +131,7 @@ fn put_decimals(out: &mut [u8; 48], at: usize, m: u128, k: usize) -> usize
 }
 
 impl Dec {
-    /// m of `m * 10^e`.
+    /// m of `m * 10^e`, with the number's sign.
     pub fn m(self) -> i128
         ensures value { result ≡ self.m }
         ensures valid { IsDecimal self }
@@ -139,7 +139,7 @@ impl Dec {
         self.m
     }
 
-    /// e of `m * 10^e`.
+    /// e of `m * 10^e`, from -30 to 35.
     pub fn e(self) -> i16
         ensures value { result ≡ self.e }
         ensures valid { IsDecimal self }
@@ -147,7 +147,8 @@ impl Dec {
         self.e
     }
 
-    /// The whole number n; none where its m or its magnitude is too large.
+    /// The whole number n; `None` exactly where its magnitude is 10^36 or more, or 10^24 or more once the zeros at its
+    /// end are left out.
     pub fn whole(n: i128) -> Option<Dec>
         ensures { result ≡ decimal_of n }
     {
@@ -165,7 +166,8 @@ impl Dec {
         Some(with_sign(n < 0, m, zeros as i16))
     }
 
-    /// Writes the number with all its digits, with a point only where e is below 0, and gives the length.
+    /// Writes the number with all its digits, with a point only where e is below 0, and `-` only below 0. Gives the
+    /// length of the text in bytes, at most 48.
     pub fn digits(self, out: &mut [u8; 48]) -> usize
         ensures within { result ≤ 48 }
         ensures text { take result out.new ≡ decimal_text self }

@@ -1,4 +1,4 @@
-ghost use Rattle.std.specs.Prelude.{◌≡◌, ℕ, ℤ, pos, ◌<◌, ◌^◌, unsigned_abs};
+ghost use Rattle.std.specs.Prelude.{◌≡◌, pos, ◌<◌, ◌^◌, unsigned_abs};
 ghost use Rattle.cgl_num.specs.Gcd.{gcd as greatest};
 
 /// The greatest common divisor by Euclid's steps.
@@ -13,7 +13,7 @@ fn common(mut a: u128, mut b: u128) -> u128
     a
 }
 
-/// The greatest common divisor of the magnitudes; 0 of 0 and 0.
+/// The greatest common divisor of the magnitudes, which is at least 0; 0 of 0 and 0. Neither is the least number.
 pub fn gcd(a: i128, b: i128) -> i128
     requires a { unsigned_abs a < 2 ^ 127 }
     requires b { unsigned_abs b < 2 ^ 127 }

@@ -1,4 +1,4 @@
-ghost use Rattle.std.specs.Prelude.{◌≡◌, ℕ, ℤ, pos, ◌+◌, ◌<ℤ◌, ◌<◌, ◌≤◌, ◌^◌, unsigned_abs, ◌++◌, length, take};
+ghost use Rattle.std.specs.Prelude.{◌≡◌, ℤ, pos, ◌+◌, ◌<ℤ◌, ◌<◌, ◌≤◌, ◌^◌, unsigned_abs, ◌++◌, length, take};
 ghost use Rattle.std.specs.Fmt.{signed_decimal};
 ghost use Rattle.cgl_num.specs.Fraction.{IsLowest, lowest, fraction_text};
 
@@ -26,7 +26,7 @@ impl Model for Frac {
 }
 
 impl Frac {
-    /// `num/den` in lowest terms.
+    /// `num/den` in lowest terms. The denominator is above 0, and the numerator is not the least number.
     pub fn new(num: i128, den: i128) -> Frac
         requires narrow_num { unsigned_abs num < 2 ^ 127 }
         requires positive { pos 0 <ℤ den }
@@ -65,7 +65,8 @@ impl Frac {
         self.den
     }
 
-    /// Writes `num/den`, or `num` alone where the denominator is 1, and returns the length of the text.
+    /// Writes `num/den`, or `num` alone where the denominator is 1, and returns the length of the text in bytes, at
+    /// most 80.
     pub fn digits(self, out: &mut [u8; 80]) -> usize
         ensures within { result ≤ 80 }
         ensures text { take result out.new ≡ fraction_text self }

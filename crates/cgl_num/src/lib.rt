@@ -18,6 +18,6 @@ pub use laws::{divisors, factors, known_fractions, lowest_terms, rational_order}
 pub use laws_decimal::{decimal_laws, number_laws, read_back_laws};
 pub use number_text::{Limit, NumberFault, is_number_text};
 
-/// Want of memory.
+/// Memory for a value was refused.
 #[derive(Clone, Copy, Debug, PartialEq, Eq)]
 pub struct Memory;

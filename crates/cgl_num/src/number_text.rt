@@ -1,4 +1,4 @@
-ghost use Rattle.std.specs.Prelude.{◌≡◌, ◌≢◌, ℕ, ℤ, pos, ◌+◌, ◌-◌, ◌*◌, ◌%◌, ◌^◌, ◌<◌, ◌≤◌, ◌+ℤ◌, ◌-ℤ◌, ◌≤ℤ◌, negsuc, true, false, length, drop, cond, neg_ℤ, ◌++◌, ◌∷◌, [], min, unsigned_abs, IfSome, IfNone, MatchResult, IsErrOf, ◌↔◌, Some, None};
+ghost use Rattle.std.specs.Prelude.{◌≡◌, ◌≢◌, ℤ, pos, ◌+◌, ◌-◌, ◌*◌, ◌%◌, ◌^◌, ◌<◌, ◌≤◌, ◌+ℤ◌, ◌-ℤ◌, ◌≤ℤ◌, negsuc, true, false, length, drop, ◌++◌, ◌∷◌, [], min, unsigned_abs, IfSome, IfNone, MatchResult, IsErrOf, ◌↔◌, Some, None};
 ghost use Rattle.cgl_num.specs.declared.number_text.NumberFault;
 ghost use Rattle.std.specs.List.{list_all, position_or_len, after_first};
 ghost use Rattle.cgl_num.specs.NumberText.{Word, is_digit, is_digits, is_exponent_letter, is_point, is_negative, unsigned, natural, near, near_exponent, has_exponent_form, digits_in, is_number, number, limit, is_in_range, reaches, IsCounted, IsForm};
@@ -15,7 +15,7 @@ pub enum NumberFault {
     Range,
 }
 
-/// A bound, which is infinite from a magnitude of 10^20 on.
+/// A bound, which is infinite from a magnitude of 10^20 on: `Plus` above 0, and `Minus` below.
 #[derive(Clone, Copy, Debug, PartialEq, Eq)]
 pub enum Limit {
     Finite(Dec),
@@ -351,7 +351,11 @@ pub fn is_number_text(text: &[u8]) -> bool
 }
 
 impl Dec {
-    /// The number that a text gives. `Form` says that the text is no number, `Range` that the number is beyond the limits.
+    /// The number that a text gives.
+    ///
+    /// # Errors
+    ///
+    /// `Form` exactly where the text is not a number, `Range` exactly where it is one beyond the limits of `Dec`.
     pub fn read(text: &[u8]) -> Result<Dec, NumberFault>
         ensures value { MatchResult result (λ d. number text.now ≡ Some d) (λ _. number text.now ≡ None) }
         ensures form { IsErrOf result NumberFault.Form ↔ (is_number text.now ≡ false) }
@@ -367,7 +371,11 @@ impl Dec {
     }
 
     /// The bound that a text gives, which is infinite from a magnitude of 10^20 on.
-    /// `Form` says that the text is no number, `Range` that a smaller number is beyond the limits.
+    ///
+    /// # Errors
+    ///
+    /// `Form` exactly where the text is not a number, `Range` exactly where it is one of a magnitude below 10^20 and
+    /// beyond the limits of `Dec`.
     pub fn read_bound(text: &[u8]) -> Result<Limit, NumberFault>
         ensures value { MatchResult result (λ bound. limit text.now ≡ Some bound) (λ _. limit text.now ≡ None) }
         ensures form { IsErrOf result NumberFault.Form ↔ (is_number text.now ≡ false) }

@@ -8,9 +8,6 @@ use Rattle.cgl_pool.specs.declared.pool.Kept.{Kept}
 use Rattle.cgl_pool.specs.Listed.{Key, is_key_less, insert_key}
 use Rattle.cgl_pool.specs.Offered.{offered, with_lesser_key, IsFree, IsTaken, IsFreeKey, IsTakenKey}
 
-insert_suc : {A : Type 0} (x y : A) (xs : List A) (at : ℕ) → insert (y ∷ xs) (suc at) x ≡ y ∷ insert xs at x
-insert_suc x y xs at = refl
-
 -- a cut whose place is free
 pub offered_free : (k : Kept) (cuts : List Kept) (at : ℕ) → IsFree k.candidate.cut cuts at → insert cuts at k ≡ offered k cuts
 offered_free k [] zero free = refl

@@ -23,8 +23,12 @@ fn add(listed: &mut Vec<Kept>, wides: &mut Vec<(u32, u64)>, stamped: Stamped) ->
     }
 }
 
-/// The cuts among the answers, each inequality once under its least key, and the keys of those that were too wide,
-/// whatever the order of the answers.
+/// The cuts among the answers, each inequality once under its least key, in the order of inequalities; and the keys of
+/// those that were too wide, rising. Both are the same for each order of the answers, whose keys differ.
+///
+/// # Errors
+///
+/// `Memory` where memory is refused, and for no other cause.
 pub fn gather(alloc: Global, mut answers: Vec<Stamped>) -> Result<Gathered, Memory>
     requires distinct { HaveDistinctKeys answers.items }
     ensures cuts { IfOk result (λ gathered. gathered.listed ≡ listed answers.items) }

@@ -1,7 +1,7 @@
 use cgl_derive::{Answer, Candidate};
 use cgl_model::Seq;
 
-/// An answer with the generator's number and the item's.
+/// An answer with its key: the generator's number and the item's.
 #[derive(Drop)]
 pub struct Stamped {
     pub key: (u32, u64),

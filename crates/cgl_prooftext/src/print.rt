@@ -1,4 +1,4 @@
-ghost use Rattle.std.specs.Prelude.{◌≡◌, ℕ, List, [], ◌∷◌, ◌++◌, flat_map, codes, IfOk, OnOk};
+ghost use Rattle.std.specs.Prelude.{◌≡◌, ◌++◌, flat_map, IfOk, OnOk};
 ghost use Rattle.cgl_prooftext.specs.ProofText.{cut_text, lin_text, proof_text, round_text, split_line, split_text, step_text};
 
 use crate::field::{append, append_count, append_ineq, append_number, append_terms};
@@ -86,7 +86,12 @@ fn append_cut(text: &mut Vec<u8>, cut: &(Ineq, Derivation)) -> Result<(), Memory
     append(text, b"qed\n")
 }
 
-/// The text of proofs, each of them a cut and its derivation.
+/// The text of proofs, each of them a cut and its derivation: a line for each step, with columns and rows by their
+/// numbers.
+///
+/// # Errors
+///
+/// `Memory` where memory is refused, and for no other cause.
 pub fn proof_text(alloc: Global, list: &[(Ineq, Derivation)]) -> Result<Vec<u8>, Memory>
     ensures { IfOk result (λ text. text.items ≡ proof_text list.now) }
 {

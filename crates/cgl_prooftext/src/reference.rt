@@ -1,4 +1,4 @@
-ghost use Rattle.std.specs.Prelude.{◌≡◌, ℕ, ℤ, List, [], ◌∷◌, ◌++◌, codes, OnOk};
+ghost use Rattle.std.specs.Prelude.{◌≡◌, [], ◌∷◌, ◌++◌, OnOk};
 ghost use Rattle.cgl_prooftext.specs.ProofText.{end_text, fields_text, numbered, ref_text, refs_fields};
 
 use crate::field::{append, append_count, append_number};

@@ -3,6 +3,8 @@ use Rattle.std.proofs.Common.{length, arith}
 use Rattle.cgl_model.specs.RowEntries.{row_entries}
 use Rattle.cgl_model.proofs.ColumnLaws.{sides_below, entries_below, form_below}
 use Rattle.cgl_model.proofs.FormListLaws.{found, shape_at}
+use Rattle.cgl_model.proofs.RiseLaws.{entries_rise}
+use Rattle.cgl_model.proofs.RisingLaws.{form_rising, sides_rising}
 use Rattle.cgl_model.proofs.laws.sides_meaning.Goals as goal
 
 pub returns-clause-ends : goal.returns-clause-ends
@@ -28,3 +30,9 @@ returns-clause-shapes c = shape_at
 
 pub returns-clause-found : goal.returns-clause-found
 returns-clause-found c = found
+
+pub returns-clause-terms : goal.returns-clause-terms
+returns-clause-terms c = sides_rising
+
+pub returns-clause-row_terms : goal.returns-clause-row_terms
+returns-clause-row_terms c = λ m r row f e. form_rising (row_entries m r) row f (entries_rise r 0 m.cols) e
