@@ -1,9 +1,9 @@
-use cgl_text::{begins_blank, fields, lines};
+use cgl_text::{Lines, begins_blank, fields};
 use std::test::Fail;
 
 #[test]
 fn lines_end_at_line_feeds(rt: HostRuntime) -> Result<(), Fail> {
-    let Ok(found) = lines(rt.alloc(), b"a b\n\nc") else {
+    let Ok(found) = Lines::of(rt.alloc(), b"a b\n\nc") else {
         assert!(rt; false);
         return Ok(());
     };

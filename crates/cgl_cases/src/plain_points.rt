@@ -2,7 +2,7 @@
 //! yardstick of the reader.
 use cgl_model::Model;
 use cgl_num::{Dec, gcd};
-use cgl_text::{fields, lines};
+use cgl_text::{Lines, fields};
 use std::alloc::Global;
 use std::test::Fail;
 
@@ -162,7 +162,7 @@ fn value_of(alloc: Global, all: &[&[u8]], name: &[u8]) -> Result<(i128, i128), F
 }
 
 pub fn point(alloc: Global, text: &[u8], model: &Model) -> Result<Answer, Fail> {
-    let found = lines(alloc, text)?;
+    let found = Lines::of(alloc, text)?;
     let all = found.as_slice();
     for (place, line) in all.iter().enumerate() {
         if let Some(kind) = fault(alloc, model, &all[..place], line)? {

@@ -6,7 +6,7 @@ use denote.Ref.{Bor}
 use Rattle.cgl_num.specs.NumberText.{Word}
 use Rattle.cgl_text.specs.Text.{is_one_of}
 use Rattle.cgl_mps.specs.Sections.{distinct, pairs_of}
-use Rattle.cgl_mps.specs.Seen.{words}
+use Rattle.cgl_text.specs.Seen.{words}
 
 -- pairs
 

@@ -7,9 +7,12 @@ use Rattle.cgl_mps.specs.declared.record.BoundKind.{BoundKind}
 use Rattle.cgl_mps.specs.declared.record.BoundKind.TheVariants.{Lo, Li, Up, Ui, Fx, Fr, Mi, Pl, Bv}
 use Rattle.cgl_mps.specs.Records.{Record}
 use Rattle.cgl_mps.specs.Sections.{Pair, pairs_of, sense_in, senses, needs_value}
-use Rattle.cgl_mps.specs.Faults.{Condition, first_kind, each_pair, no_word, conditions, fault_after, takes, is_over, is_value_of}
+use Rattle.cgl_text.specs.Text.{is_over}
+use Rattle.cgl_text.specs.Conditions.{Condition, first_kind}
+use Rattle.cgl_mps.specs.Faults.{each_pair, no_word, conditions, fault_after, takes, is_value_of}
 use Rattle.cgl_mps.specs.Decode.{deck_limits}
-use Rattle.cgl_mps.specs.Seen.{words, word_at}
+use Rattle.cgl_text.specs.Seen.{words}
+use Rattle.cgl_mps.specs.Seen.{word_at}
 use Rattle.cgl_mps.specs.Found.{has_sense}
 
 -- senses
@@ -94,14 +97,14 @@ kind_not_over : (over : Bool) (rest : Option ℕ) → false ≡ over → rest �
 kind_not_over true rest e = cc
 kind_not_over false rest e = refl
 
-pub fault_over : (bytes : List ℕ) (before : List Record) (r : Record) → true ≡ is_over deck_limits bytes r.line → Some 12 ≡ fault_after deck_limits bytes before r
+pub fault_over : (bytes : List ℕ) (before : List Record) (r : Record) → true ≡ is_over deck_limits.bytes bytes r.line → Some 12 ≡ fault_after deck_limits bytes before r
 unfolding fault_after
-fault_over bytes before r e = kind_over (is_over deck_limits bytes r.line) (first_kind ((nat_lt 4096 r.bytes, 11) ∷ conditions deck_limits before r)) e
+fault_over bytes before r e = kind_over (is_over deck_limits.bytes bytes r.line) (first_kind ((nat_lt 4096 r.bytes, 11) ∷ conditions deck_limits before r)) e
 
-pub fault_not_over : (bytes : List ℕ) (before : List Record) (r : Record) → false ≡ is_over deck_limits bytes r.line
+pub fault_not_over : (bytes : List ℕ) (before : List Record) (r : Record) → false ≡ is_over deck_limits.bytes bytes r.line
     → first_kind ((nat_lt 4096 r.bytes, 11) ∷ conditions deck_limits before r) ≡ fault_after deck_limits bytes before r
 unfolding fault_after
-fault_not_over bytes before r e = kind_not_over (is_over deck_limits bytes r.line) (first_kind ((nat_lt 4096 r.bytes, 11) ∷ conditions deck_limits before r)) e
+fault_not_over bytes before r e = kind_not_over (is_over deck_limits.bytes bytes r.line) (first_kind ((nat_lt 4096 r.bytes, 11) ∷ conditions deck_limits before r)) e
 
 -- values of bounds
 

@@ -7,7 +7,8 @@ use Rattle.cgl_model.specs.declared.mip.Model.{Model}
 use Rattle.cgl_mps.specs.declared.record.Section.{Section}
 use Rattle.cgl_mps.specs.declared.record.Section.TheVariants.{Start, Name, Sense, Rows, Columns, Rhs, Ranges, Bounds, End, Unsupported, Unknown}
 use Rattle.cgl_mps.specs.Records.{Record, record_of, section_after, is_end, is_kept, kept, place, same_section}
-use Rattle.cgl_mps.specs.Faults.{Limits, Condition, first_kind, line_conditions, conditions, header_conditions, data_conditions, fault_after}
+use Rattle.cgl_text.specs.Conditions.{Condition, first_kind}
+use Rattle.cgl_mps.specs.Faults.{Limits, line_conditions, conditions, header_conditions, data_conditions, fault_after}
 use Rattle.cgl_mps.specs.Models.{model_of}
 use Rattle.cgl_mps.specs.Decode.{Outcome, Deck, decode_within}
 use Rattle.cgl_mps.specs.Reading.{turn, read_from}

@@ -1,20 +1,24 @@
 -- What the words of the model become when one record more is taken.
-use Rattle.std.proofs.Common.{◌≡◌, refl, sym, ap, ◌∙◌, arith, ℕ, suc, ◌+◌, Bool, true, false, cond, not, ◌&&◌, ◌||◌, List, [], ◌∷◌, ◌++◌, append-nil, map, filter, filter_map, position, bytes_eq, Option, take}
-use Rattle.std.specs.List.{list_any, before_first, position_or_len, position_from}
+use Rattle.std.proofs.Common.{◌≡◌, refl, sym, ap, ◌∙◌, arith, ℕ, suc, ◌+◌, Bool, true, false, cond, not, ◌&&◌, ◌||◌, List, [], ◌∷◌, ◌++◌, append-nil, map, filter, filter_map, find, bytes_eq, Option, Some, None, option_map, option_and_then, take}
+use Rattle.std.specs.List.{list_any, before_first, position_or_len}
 use Rattle.std.proofs.lemmas.List.{map-append}
 use Rattle.std.proofs.lemmas.List.Elements.{filter-append, filter_map-append}
-use Rattle.std.proofs.lemmas.Iterator.Adapters.{position_from-zero}
-use Rattle.cgl_num.specs.NumberText.{Word}
+use Rattle.cgl_num.specs.NumberText.{Word, number}
 use Rattle.cgl_text.specs.Text.{is_one_of}
 use Rattle.cgl_mps.specs.declared.record.Section.TheVariants.{Columns, Rows}
 use Rattle.cgl_mps.specs.Records.{Record, field, same_section, data_in}
-use Rattle.cgl_mps.specs.Sections.{is_marker, names_column, column_records, column_names, distinct, row_in, rows, row_names}
+use Rattle.cgl_mps.specs.Sections.{Pair, is_marker, names_column, column_records, column_names, distinct, row_in, rows, row_names}
+use Rattle.cgl_mps.specs.Models.{value_at, value_for}
 use Rattle.cgl_mps.proofs.CountLaws.{distinct-push}
 
--- places
+-- values of rows
 
-pub position_is : {X : Type 0} (found : Option ℕ) (p : X → Bool) (xs : List X) → found ≡ position_from p 0 xs → found ≡ position p xs
-position_is found p xs is = is ∙ sym (position_from-zero p xs)
+value_case : (o : Option Pair) → option_and_then (λ (p : Pair). number p.1) o ≡ option_and_then number (option_map (λ (p : Pair). p.1) o)
+value_case None = refl
+value_case (Some p) = refl
+
+pub value_read : (pairs : List Pair) (row : Word) → value_at pairs row ≡ option_and_then number (value_for pairs row)
+value_read pairs row = value_case (find (λ (p : Pair). bytes_eq row p.0) pairs)
 
 -- markers before a column's first record
 

@@ -1,7 +1,6 @@
 -- What the words of COLUMNS, RHS, RANGES and BOUNDS become when one data line more is read.
-use Rattle.std.proofs.Common.{◌≡◌, refl, sym, ap, ap₂, ◌∙◌, arith, ℕ, suc, ◌+◌, Bool, true, false, cond, not, ◌&&◌, ◌||◌, true≢false, List, [], ◌∷◌, ◌++◌, append-nil, length, length-append, drop, map, filter, filter_map, flat_map, bytes_eq, codes, Option, Some, None, is_some, position, unwrap_or, option_map}
-use Rattle.std.specs.List.{list_any, after_first, before_first, cons_option, position_or_len, position_from}
-use Rattle.std.proofs.lemmas.Iterator.Adapters.{position_from-zero}
+use Rattle.std.proofs.Common.{◌≡◌, refl, sym, ap, ap₂, ◌∙◌, arith, ℕ, suc, ◌+◌, Bool, true, false, cond, not, ◌&&◌, ◌||◌, true≢false, List, [], ◌∷◌, ◌++◌, append-nil, length, length-append, drop, map, filter, filter_map, flat_map, bytes_eq, codes, Option, Some, None, unwrap_or, option_map}
+use Rattle.std.specs.List.{list_any, after_first, before_first, cons_option, position_or_len}
 use Rattle.std.proofs.lemmas.List.Elements.{filter-append, filter_map-append}
 use Rattle.std.proofs.lemmas.List.{map-append}
 use Rattle.std.proofs.lemmas.List.Folds.{list_any-append}
@@ -424,17 +423,6 @@ bounds_in_order lines read r is =
     }
 
 -- a name is found where it is one of them
-
-from_case : (b : Bool) (n : ℕ) (later : Option ℕ) (any : Bool) → is_some later ≡ any → is_some (cond b (Some n) later) ≡ (b || any)
-from_case true n later any is = refl
-from_case false n later any is = is
-
-found_from : (p : Word → Bool) (n : ℕ) (xs : List Word) → is_some (position_from p n xs) ≡ list_any p xs
-found_from p n [] = refl
-found_from p n (x ∷ xs) = from_case (p x) n (position_from p (n + 1) xs) (list_any p xs) (found_from p (n + 1) xs)
-
-pub is_found : (p : Word → Bool) (xs : List Word) → is_some (position p xs) ≡ list_any p xs
-is_found p xs = ap is_some (position_from-zero p xs) ∙ found_from p 0 xs
 
 pub any_line : (records : List Record) (name : Word) → list_any (names_column name) (column_records records) ≡ known (data_in Columns records) name
 any_line records name = sym (any_column records name) ∙ any-filter (is_data_of Columns) (names_column name) records

@@ -1,10 +1,10 @@
 -- One reading, line by line, gives the outcome that the filters over all records say.
-use Rattle.std.proofs.Common.{◌≡◌, refl, sym, ap, ap₂, ◌∙◌, arith, ℕ, ◌+◌, ◌<◌, ◌≤◌, nat_lt, Bool, true, false, cond, ◌||◌, List, [], ◌∷◌, ◌++◌, append-nil, append_assoc, length, length-append, filter_map, option_map, Option, Some, None}
+use Rattle.std.proofs.Common.{◌≡◌, refl, sym, ap, ap₂, ◌∙◌, arith, ℕ, ◌+◌, ◌≤◌, Bool, true, false, cond, ◌||◌, List, [], ◌∷◌, ◌++◌, append-nil, append_assoc, length, length-append, filter_map, option_map, Option, Some, None}
 use Rattle.std.specs.List.{list_any, cons_option}
-use Rattle.std.proofs.lemmas.Bool.Decides.{nat_tests}
-use Rattle.std.proofs.lemmas.List.Elements.{filter-append, filter_map-append}
+use Rattle.std.proofs.lemmas.List.Elements.{filter-append}
 use Rattle.std.proofs.lemmas.List.Folds.{list_any-append}
 use Rattle.cgl_text.specs.Text.{lines_of}
+use Rattle.cgl_text.proofs.RecordLaws.{AllBelow, before-all, below-push, first-found, not_below}
 use Rattle.cgl_mps.specs.declared.record.Section.{Section}
 use Rattle.cgl_mps.specs.declared.record.Section.TheVariants.{Start}
 use Rattle.cgl_mps.specs.Records.{Record, record_of, records_from, records, section_after, before, is_end, up_to_end, kept, is_kept}
@@ -13,32 +13,8 @@ use Rattle.cgl_mps.specs.Models.{model_of}
 use Rattle.cgl_mps.specs.Decode.{Outcome, Deck, Fault, outcome}
 use Rattle.cgl_mps.specs.Reading.{turn, read_from, ReadsAlike}
 
-not_below : (n m : ℕ) → m ≤ n → nat_lt n m ≡ false
-not_below n m le = grind (arith, nat_tests)
-
-is_below : (n m : ℕ) → n < m → nat_lt n m ≡ true
-is_below n m lt = grind (arith, nat_tests)
-
--- the first fault
-first-fault : {X Y : Type 0} (h : X → Option Y) (xs ys : List X) (x : X) → filter_map h xs ≡ [] → filter_map h (xs ++ x ∷ ys) ≡ cons_option (h x) (filter_map h ys)
-first-fault h xs ys x none = filter_map-append h xs (x ∷ ys) ∙ ap (λ l. l ++ cons_option (h x) (filter_map h ys)) none
-
--- each of these stands before line n
-abbrev pub AllBelow : ℕ → List Record → Type 0
-AllBelow n [] = Unit {0}
-AllBelow n (r ∷ rs) = (r.line < n) × AllBelow n rs
-
-below-push : (n : ℕ) (rs : List Record) (r : Record) → r.line ≡ n → AllBelow n rs → AllBelow (n + 1) (rs ++ r ∷ [])
-below-push n [] r at all = (omega (arith, at), tt)
-below-push n (s ∷ rs) r at all = (omega (arith, all.0), below-push n rs r at all.1)
-
-kept-below : (n : ℕ) (r : Record) (rs : List Record) → r.line < n → before n (kept rs) ≡ kept rs → (b : Bool) → before n (cond b (r ∷ kept rs) (kept rs)) ≡ cond b (r ∷ kept rs) (kept rs)
-kept-below n r rs lt all true = ap (λ c. cond c (r ∷ before n (kept rs)) (before n (kept rs))) (is_below r.line n lt) ∙ ap (λ l. r ∷ l) all
-kept-below n r rs lt all false = all
-
-before-kept : (n : ℕ) (rs : List Record) → AllBelow n rs → before n (kept rs) ≡ kept rs
-before-kept n [] all = refl
-before-kept n (r ∷ rs) all = kept-below n r rs all.0 (before-kept n rs all.1) (is_kept r)
+abbrev line_of_record : Record → ℕ
+line_of_record r = r.line
 
 none-later : (m : ℕ) (r : Record) (rs : List Record) → m ≤ r.line → before m (kept rs) ≡ [] → (k e : Bool) → before m (cond k (r ∷ kept (cond e [] rs)) (kept (cond e [] rs))) ≡ []
 none-later m r rs le none true true = ap (λ c. cond c (r ∷ []) []) (not_below r.line m le)
@@ -52,15 +28,6 @@ before-later m n section (line ∷ lines) le =
     let r = record_of n (section_after section line) line in
     let others = up_to_end (records_from (n + 1) (section_after section line) lines) in
     none-later m r others le (before-later m (n + 1) (section_after section line) lines (omega arith)) (is_kept r) (is_end r)
-
--- the records before line n, seen from the whole list
-before-all : (all : List Record) (n : ℕ) (done later : List Record) → all ≡ done ++ later → AllBelow n done → before n (kept later) ≡ [] → before n (kept all) ≡ kept done
-before-all all n done later parts below none =
-    ap (λ l. before n (kept l)) parts
-    ∙ ap (before n) (filter-append is_kept done later)
-    ∙ filter-append (λ r. nat_lt r.line n) (kept done) (kept later)
-    ∙ ap₂ (λ a b. a ++ b) (before-kept n done below) none
-    ∙ append-nil (kept done)
 
 or-true : (a b : Bool) → b ≡ true → (a || (b || false)) ≡ true
 or-true true b holds = refl
@@ -78,13 +45,13 @@ one-turn limits bytes all done others r later parts fine here goes_on (Some kind
     let found : fault_at limits bytes all r ≡ Some (r.line, kind) = ap (λ b. option_map (λ k. (r.line, k)) (fault_after limits bytes b r)) here ∙ ap (option_map (λ k. (r.line, k))) is in
     ap (λ f. outcome f all)
     (ap (filter_map (fault_at limits bytes all)) parts
-    ∙ first-fault (fault_at limits bytes all) done (cond (is_end r) [] others) r fine
+    ∙ first-found (fault_at limits bytes all) done (cond (is_end r) [] others) r fine
     ∙ ap (λ o. cons_option o (filter_map (fault_at limits bytes all) (cond (is_end r) [] others))) found)
 one-turn limits bytes all done others r later parts fine here goes_on None is true end =
     let good : fault_at limits bytes all r ≡ None = ap (λ b. option_map (λ k. (r.line, k)) (fault_after limits bytes b r)) here ∙ ap (option_map (λ k. (r.line, k))) is in
     let whole : all ≡ done ++ r ∷ [] = parts ∙ ap (λ c. done ++ r ∷ cond c [] others) end in
     let none : filter_map (fault_at limits bytes all) all ≡ [] =
-    ap (filter_map (fault_at limits bytes all)) whole ∙ first-fault (fault_at limits bytes all) done [] r fine ∙ ap (λ o. cons_option o []) good in
+    ap (filter_map (fault_at limits bytes all)) whole ∙ first-found (fault_at limits bytes all) done [] r fine ∙ ap (λ o. cons_option o []) good in
     ap (λ f. outcome f all) none
     ∙ ap (outcome []) whole
     ∙ ap (λ c. cond c (Deck (model_of (kept (done ++ r ∷ [])))) (Fault (length (done ++ r ∷ []) + 1) 10)) (list_any-append is_end done (r ∷ []) ∙ or-true (list_any is_end done) (is_end r) end)
@@ -95,7 +62,7 @@ go : (limits : Limits) (bytes : List ℕ) (all : List Record) (lines : List (Lis
     → all ≡ done ++ up_to_end (records_from n section lines)
     → filter_map (fault_at limits bytes all) done ≡ []
     → list_any is_end done ≡ false
-    → AllBelow n done
+    → AllBelow line_of_record n done
     → n ≡ length done + 1
     → outcome (filter_map (fault_at limits bytes all) all) all ≡ read_from limits bytes n section (kept done) lines
 go limits bytes all [] n section done parts fine no_end below number =
@@ -106,15 +73,15 @@ go limits bytes all [] n section done parts fine no_end below number =
 go limits bytes all (line ∷ lines) n section done parts fine no_end below number =
     let r = record_of n (section_after section line) line in
     let others = up_to_end (records_from (n + 1) (section_after section line) lines) in
-    let here : before n (kept all) ≡ kept done = before-all all n done (up_to_end (records_from n section (line ∷ lines))) parts below (before-later n n section (line ∷ lines) (omega arith)) in
+    let here : before n (kept all) ≡ kept done = before-all line_of_record is_kept all n done (up_to_end (records_from n section (line ∷ lines))) parts below (before-later n n section (line ∷ lines) (omega arith)) in
     one-turn limits bytes all done others r (read_from limits bytes (n + 1) (section_after section line) (kept done ++ kept (r ∷ [])) lines) parts fine here
     (λ is end.
     let good : fault_at limits bytes all r ≡ None = ap (λ b. option_map (λ k. (r.line, k)) (fault_after limits bytes b r)) here ∙ ap (option_map (λ k. (r.line, k))) is in
     go limits bytes all lines (n + 1) (section_after section line) (done ++ r ∷ [])
     (parts ∙ ap (λ c. done ++ r ∷ cond c [] others) end ∙ sym (append_assoc done (r ∷ []) others))
-    (first-fault (fault_at limits bytes all) done [] r fine ∙ ap (λ o. cons_option o []) good)
+    (first-found (fault_at limits bytes all) done [] r fine ∙ ap (λ o. cons_option o []) good)
     (list_any-append is_end done (r ∷ []) ∙ ap₂ (λ a b. a || (b || false)) no_end end)
-    (below-push n done r refl below)
+    (below-push line_of_record n done r refl below)
     (omega (arith, number, length-append done (r ∷ [])))
     ∙ ap (λ l. read_from limits bytes (n + 1) (section_after section line) l lines) (filter-append is_kept done (r ∷ [])))
     (fault_after limits bytes (kept done) r) refl (is_end r) refl

@@ -8,11 +8,11 @@ use Rattle.std.proofs.lemmas.List.{map-append}
 use Rattle.std.proofs.lemmas.List.Folds.{list_any-append}
 use Rattle.std.proofs.lemmas.List.Elements.{filter-append, filter_map-append}
 use Rattle.cgl_num.specs.NumberText.{Word, number}
-use Rattle.cgl_text.specs.Text.{is_blank, is_one_of, begins_blank, fields_of}
+use Rattle.cgl_text.specs.Text.{is_blank, is_one_of, begins_blank, fields_of, kept_fields}
 use Rattle.cgl_model.specs.declared.mip.RowKind.{RowKind}
 use Rattle.cgl_model.specs.Valid.{AreDistinct, IsName, IsModelName, IsRowName, is_name_byte}
 use Rattle.cgl_mps.specs.declared.record.Section.TheVariants.{Name, Rows, Columns}
-use Rattle.cgl_mps.specs.Records.{Record, record_of, field, same_section, is_kept, kept_fields}
+use Rattle.cgl_mps.specs.Records.{Record, record_of, field, same_section, is_kept}
 use Rattle.cgl_mps.specs.Sections.{Pair, row_in, row_kind, row_names, is_marker, names_column, column_records, entry_pairs, pairs_of, rest}
 use Rattle.cgl_mps.specs.Faults.{Limits, fault_after, is_long, row_conditions, column_conditions, columns_conditions, header_conditions, each_pair, entry_conditions, names_row, pairs_of_column}
 use Rattle.cgl_mps.specs.Models.{name_in}

@@ -1,8 +1,9 @@
 -- The first fault of a deck.
-use Rattle.std.specs.Prelude.{ℕ, ◌+◌, ◌==◌, nat_lt, nat_le, Bool, true, false, ◌&&◌, ◌||◌, not, if◌then◌else◌, List, [], ◌∷◌, ◌++◌, codes, bytes_eq, length, take, filter, filter_map, flat_map, Option, Some, None, unwrap_or, option_map, is_none}
+use Rattle.std.specs.Prelude.{ℕ, ◌==◌, nat_lt, nat_le, Bool, true, false, ◌&&◌, ◌||◌, not, if◌then◌else◌, List, [], ◌∷◌, ◌++◌, codes, bytes_eq, length, filter, filter_map, flat_map, Option, Some, None, unwrap_or, option_map, is_none}
 use Rattle.std.specs.List.{list_any, after_first}
 use Rattle.cgl_num.specs.NumberText.{Word}
-use Rattle.cgl_text.specs.Text.{is_one_of, lines_of}
+use Rattle.cgl_text.specs.Text.{is_one_of, is_over}
+pub use Rattle.cgl_text.specs.Conditions.{Condition, first_kind}
 use Rattle.cgl_num.specs.NumberText.{is_number, number, limit}
 use Rattle.cgl_num.specs.declared.number_text.Limit.{Limit}
 use Rattle.cgl_num.specs.declared.number_text.Limit.TheVariants.{Finite, Plus, Minus}
@@ -20,26 +21,13 @@ pub record Limits : Type 0 where
   pub columns : ℕ
   pub entries : ℕ
 
--- whether it holds, and the kind of fault that it is
-abbrev pub Condition : Type 0
-Condition = Bool × ℕ
-
--- the kind of the first that holds
-abbrev pub first_kind : List Condition → Option ℕ
-first_kind [] = None
-first_kind (condition ∷ conditions) = if condition.0 then Some condition.1 else first_kind conditions
-
 abbrev pub is_long : Word → Bool
 is_long name = nat_lt 255 (length name)
 
 -- each line
 
--- the byte past the limit stands in line n
-abbrev pub is_over : Limits → List ℕ → ℕ → Bool
-is_over limits bytes n = nat_lt limits.bytes (length bytes) && length (lines_of (take (limits.bytes + 1) bytes)) == n
-
 abbrev pub line_conditions : Limits → List ℕ → Record → List Condition
-line_conditions limits bytes r = (is_over limits bytes r.line, 12) ∷ (nat_lt 4096 r.bytes, 11) ∷ []
+line_conditions limits bytes r = (is_over limits.bytes bytes r.line, 12) ∷ (nat_lt 4096 r.bytes, 11) ∷ []
 
 -- headers
 

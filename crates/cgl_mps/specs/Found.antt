@@ -1,11 +1,11 @@
 -- Whether one record has what is looked for.
-use Rattle.std.specs.Prelude.{Bool, ◌&&◌, not, nat_lt, Option, is_some}
+use Rattle.std.specs.Prelude.{Bool, ◌&&◌, not, nat_lt, is_some}
 use Rattle.cgl_num.specs.NumberText.{Word}
 use Rattle.cgl_mps.specs.declared.record.Section.{Section}
 use Rattle.cgl_mps.specs.declared.record.Section.TheVariants.{Columns}
 use Rattle.cgl_mps.specs.Records.{Record, same_section}
-use Rattle.cgl_mps.specs.Sections.{sense_in, names_column, entry_pairs, set_pairs, same_set, set_in}
-use Rattle.cgl_mps.specs.Faults.{names_row, rank}
+use Rattle.cgl_mps.specs.Sections.{sense_in, names_column}
+use Rattle.cgl_mps.specs.Faults.{rank}
 
 abbrev pub is_data_of : Section → Record → Bool
 is_data_of section r = not r.header && same_section section r.section
@@ -13,14 +13,6 @@ is_data_of section r = not r.header && same_section section r.section
 -- a line of the column
 abbrev pub is_column_named : Word → Record → Bool
 is_column_named name r = is_data_of Columns r && names_column name r
-
--- a line of the column with an entry in the row
-abbrev pub has_entry_in : Word → Word → Record → Bool
-has_entry_in column row r = is_column_named column r && names_row (entry_pairs r) row
-
--- a line of the set with a value for the row
-abbrev pub has_value_in : Section → Option Word → Word → Record → Bool
-has_value_in section set row r = is_data_of section r && same_set set (set_in section r) && names_row (set_pairs r) row
 
 -- a header that stands behind the section's
 abbrev pub is_behind : Section → Record → Bool

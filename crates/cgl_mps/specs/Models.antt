@@ -19,6 +19,10 @@ abbrev pub last_or {ℓ} : {X : Type ℓ} → X → List X → X
 last_or d [] = d
 last_or d (x ∷ xs) = last_or x xs
 
+-- the word of the first pair that names the row
+abbrev pub value_for : List Pair → Word → Option Word
+value_for pairs row = option_map (λ p. p.1) (find (λ p. bytes_eq row p.0) pairs)
+
 -- the value of the pair that names the row
 abbrev pub value_at : List Pair → Word → Option Decimal
 value_at pairs row = option_and_then (λ p. number p.1) (find (λ p. bytes_eq row p.0) pairs)

@@ -1,10 +1,11 @@
 -- The records of a deck: its lines up to ENDATA, each with its number, its section and its fields.
-use Rattle.std.specs.Prelude.{ℕ, ◌+◌, ◌==◌, nat_lt, Bool, true, false, ◌&&◌, not, if◌then◌else◌, List, [], ◌∷◌, codes, bytes_eq, length, find, filter, unwrap_or, option_map, slice_get}
+use Rattle.std.specs.Prelude.{ℕ, ◌+◌, ◌==◌, nat_lt, Bool, ◌&&◌, not, if◌then◌else◌, List, [], ◌∷◌, codes, bytes_eq, length, find, filter, unwrap_or, option_map, slice_get}
 use Rattle.std.specs.List.{list_any}
 use Rattle.cgl_mps.specs.declared.record.Section.{Section}
 use Rattle.cgl_mps.specs.declared.record.Section.TheVariants.{Start, Name, Sense, Rows, Columns, Rhs, Ranges, Bounds, End, Unsupported, Unknown}
 use Rattle.cgl_num.specs.NumberText.{Word}
-use Rattle.cgl_text.specs.Text.{fields_of, begins_blank, lines_of, is_one_of}
+use Rattle.cgl_text.specs.Text.{begins_blank, lines_of, is_one_of}
+pub use Rattle.cgl_text.specs.Text.{kept_fields, no_field}
 
 abbrev pub place : Section → ℕ
 place Start = 0
@@ -43,18 +44,9 @@ pub record Record : Type 0 where
 abbrev pub field : ℕ → Record → Word
 field k r = unwrap_or (slice_get r.fields k) []
 
--- the fields of a line; a comment has none
-abbrev pub kept_fields : List ℕ → List Word
-kept_fields [] = []
-kept_fields (b ∷ bytes) = if b == 42 then [] else fields_of (b ∷ bytes)
-
 abbrev pub first_word : List Word → Word
 first_word [] = []
 first_word (word ∷ words) = word
-
-abbrev pub no_field : List Word → Bool
-no_field [] = true
-no_field (word ∷ words) = false
 
 abbrev pub is_header : List ℕ → Bool
 is_header line = not (begins_blank line) && not (no_field (kept_fields line))

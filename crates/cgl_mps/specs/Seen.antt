@@ -1,15 +1,10 @@
--- Words that code holds as references.
-use Rattle.std.specs.Prelude.{ℕ, List, [], map, bytes_eq, find, Option, option_map, unwrap_or, slice_get}
+-- Words of a line, and the kinds of bounds they mean.
+use Rattle.std.specs.Prelude.{ℕ, List, [], bytes_eq, find, Option, option_map, unwrap_or, slice_get}
 use denote.Ref.{Bor}
 use Rattle.cgl_num.specs.NumberText.{Word}
+use Rattle.cgl_text.specs.Seen.{words}
 use Rattle.cgl_mps.specs.declared.record.BoundKind.{BoundKind}
 use Rattle.cgl_mps.specs.Sections.{bound_kinds}
-
-abbrev pub word : Bor (List ℕ) → Word
-word w = w.now
-
-abbrev pub words : List (Bor (List ℕ)) → List Word
-words fields = map word fields
 
 -- the word at place k, or an empty one
 abbrev pub word_at : ℕ → List (Bor (List ℕ)) → Word

@@ -1,9 +1,12 @@
 //! Bounds as a line of BOUNDS says them.
 
-ghost use Rattle.std.specs.Prelude.{◌≡◌, option_map};
-ghost use Rattle.cgl_mps.specs.Seen.{word};
+ghost use Rattle.std.specs.Prelude.{◌≡◌, ◌∷◌, ◌++◌, [], IfOk, OnOk, bytes_eq, filter, option_map};
+ghost use Rattle.cgl_text.specs.Seen.{word};
 
 use crate::record::BoundKind;
+use cgl_num::Memory;
+use cgl_text::same_bytes;
+use std::alloc::Global;
 use std::marker::Model;
 
 /// A bound on a column, in a set or in none, with a value or none.
@@ -17,7 +20,7 @@ pub struct Bound<'a> {
 
 impl<'a> Model for Bound<'a> {
     ghost use Rattle.std.specs.Prelude.{option_map};
-    ghost use Rattle.cgl_mps.specs.Seen.{word};
+    ghost use Rattle.cgl_text.specs.Seen.{word};
     ghost use Rattle.cgl_mps.specs.Sections.{Bound as Said};
 
     ghost Value = { Said };
@@ -82,5 +85,79 @@ impl<'a> Bound<'a> {
         ensures { option_map word result ≡ self.now.value }
     {
         self.value
+    }
+}
+
+fn push_bound<'a>(bounds: &mut Vec<Bound<'a>>, bound: Bound<'a>) -> Result<(), Memory>
+    ensures { OnOk result (bounds.new.items ≡ bounds.old.items ++ bound.entry ∷ []) }
+{
+    let Ok(()) = bounds.push(bound) else {
+        return Err(Memory);
+    };
+    Ok(())
+}
+
+fn own_bounds<'a>(
+    alloc: Global,
+    bounds: &[Bound<'a>],
+    column: &[u8],
+) -> Result<Vec<Bound<'a>>, Memory>
+    ensures { IfOk result (λ found.
+        found.items ≡ filter (λ b. bytes_eq column.now b.column) bounds.now) }
+{
+    let mut found = Vec::new(alloc);
+    for bound in bounds {
+        if same_bytes(column, bound.column()) {
+            let Ok(()) = found.push(bound.again()) else {
+                return Err(Memory);
+            };
+        }
+    }
+    Ok(found)
+}
+
+/// Bounds in the order in which they came, found by their columns.
+#[derive(Drop)]
+pub(crate) struct Bounds<'a> {
+    bounds: Vec<Bound<'a>>,
+}
+
+impl<'a> Model for Bounds<'a> {
+    ghost use Rattle.std.specs.Prelude.{List};
+    ghost use Rattle.cgl_mps.specs.Sections.{Bound as Said};
+
+    ghost Value = { List Said };
+
+    ghost view = { λ it. it.bounds.items };
+}
+
+impl<'a> Bounds<'a> {
+    pub(crate) fn new(alloc: Global) -> Bounds<'a>
+        ensures { result ≡ [] }
+    {
+        Bounds {
+            bounds: Vec::new(alloc),
+        }
+    }
+
+    /// Takes in a bound behind the others.
+    pub(crate) fn push(&mut self, bound: Bound<'a>) -> Result<(), Memory>
+        ensures { OnOk result (self.new ≡ self.old ++ bound.entry ∷ []) }
+    {
+        push_bound(&mut self.bounds, bound)
+    }
+
+    /// Those on the column, in their order.
+    pub(crate) fn on(&self, alloc: Global, column: &[u8]) -> Result<Bounds<'a>, Memory>
+        ensures { IfOk result (λ found. found ≡ filter (λ b. bytes_eq column.now b.column) self.now) }
+    {
+        let bounds = own_bounds(alloc, self.bounds.as_slice(), column)?;
+        Ok(Bounds { bounds })
+    }
+
+    pub(crate) fn as_slice(&self) -> &[Bound<'a>]
+        ensures { result.now ≡ self.now }
+    {
+        self.bounds.as_slice()
     }
 }

@@ -8,11 +8,11 @@ ghost use Rattle.cgl_mps.specs.Found.{is_data_of};
 ghost use Rattle.cgl_mps.specs.Carried.{after_bound, after_line, after_pairs, HasPairs, IsBounds, IsColumns, IsPairs, splits};
 
 use crate::columns::ReadColumns;
-use crate::name_list::Names;
 use crate::record::{Record, Section};
 use crate::sections::{is_data_in, row_in};
 use crate::sets::{ReadBounds, ReadPairs};
 use cgl_num::Memory;
+use cgl_text::Names;
 use std::alloc::Global;
 use std::marker::Model;
 

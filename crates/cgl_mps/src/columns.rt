@@ -8,11 +8,11 @@ ghost use Rattle.cgl_mps.specs.Faults.{names_row};
 ghost use Rattle.cgl_mps.specs.Carried.{after_line, after_marker, after_more, after_new, all_of, is_current, names_of, no_columns, own_pairs, with_pairs};
 
 use crate::counts::pair_count;
-use crate::name_list::Names;
-use crate::pairs::{Pair, push_pairs, some_names};
+use crate::pairs::Pairs;
 use crate::record::{Record, field};
-use crate::sections::{entry_fields, is_marker, same_bytes};
+use crate::sections::{entry_fields, is_marker};
 use cgl_num::Memory;
+use cgl_text::{Names, same_bytes};
 use std::alloc::Global;
 use std::marker::Model;
 
@@ -21,7 +21,7 @@ use std::marker::Model;
 pub(crate) struct ReadColumn<'a> {
     name: &'a [u8],
     marked: bool,
-    pairs: Vec<Pair<'a>>,
+    pairs: Pairs<'a>,
 }
 
 impl<'a> Model for ReadColumn<'a> {
@@ -29,7 +29,7 @@ impl<'a> Model for ReadColumn<'a> {
 
     ghost Value = { Said };
 
-    ghost view = { λ it. record { name = it.name.now; marked = it.marked; pairs = it.pairs.items } };
+    ghost view = { λ it. record { name = it.name.now; marked = it.marked; pairs = it.pairs } };
 }
 
 impl<'a> ReadColumn<'a> {
@@ -45,10 +45,10 @@ impl<'a> ReadColumn<'a> {
         self.marked
     }
 
-    pub(crate) fn pairs(&self) -> &[Pair<'a>]
+    pub(crate) fn pairs(&self) -> &Pairs<'a>
         ensures { result.now ≡ self.now.pairs }
     {
-        self.pairs.as_slice()
+        &self.pairs
     }
 
     /// The column with the pairs on one more of its lines.
@@ -60,9 +60,7 @@ impl<'a> ReadColumn<'a> {
             marked,
             mut pairs,
         } = self;
-        let Ok(()) = push_pairs(&mut pairs, entry_fields(r)) else {
-            return Err(Memory);
-        };
+        pairs.push_fields(entry_fields(r))?;
         Ok(ReadColumn {
             name,
             marked,
@@ -128,7 +126,7 @@ impl<'a> ReadColumns<'a> {
         ensures { result ≡ names_row (own_pairs self.now.current) row.now }
     {
         match &self.current {
-            Some(column) => some_names(column.pairs(), row),
+            Some(column) => column.pairs().has(row),
             None => false,
         }
     }
@@ -255,8 +253,8 @@ impl<'a> ReadColumns<'a> {
         let Some(count) = count.checked_add(pair_count(entry_fields(r))) else {
             return Err(Memory);
         };
-        let mut pairs = Vec::new(alloc);
-        push_pairs(&mut pairs, entry_fields(r))?;
+        let mut pairs = Pairs::new(alloc);
+        pairs.push_fields(entry_fields(r))?;
         Ok(ReadColumns {
             names,
             ended,

@@ -11,15 +11,21 @@ use crate::record::{Record, Section};
 use crate::records::{is_end, is_kept, record_of};
 use cgl_model::Model;
 use cgl_num::Memory;
-use cgl_text::lines;
+use cgl_text::Lines;
 use std::alloc::Global;
 use thiserror::Error;
 
-/// Why a text is no deck: its first fault, by its line from 1 and its kind. Or want of memory.
+/// Why a text gives no model.
 #[derive(Clone, Copy, Debug, PartialEq, Eq, Error)]
 pub enum DeckError {
+    /// The text is no deck: its first bad line, counted from 1, and the kind of that line's first
+    /// fault. The kind is 1 (an unknown header), 2 (order), 3 (fields), 4 (a number), 5 (an unknown
+    /// row), 6 (an unknown column), 7 (a duplicate), 8 (a split column), 9 (unsupported), 10 (no
+    /// ENDATA, at the last line's number plus 1), 11 (a line over 4,096 or a name over 255 bytes) or
+    /// 12 (more than 2^30 bytes, 2^20 rows, 2^20 columns or 2^22 entries).
     #[error("line {line} kind {kind}")]
     Fault { line: u64, kind: u8 },
+    /// Memory was refused.
     #[error("out of memory")]
     Memory,
 }
@@ -36,8 +42,16 @@ fn keep<'a>(alloc: Global, before: Carried<'a>, r: Record<'a>) -> Result<Carried
     }
 }
 
-/// The model that a deck means. Of a text with more bytes than a deck may have, one byte past the
-/// limit is enough.
+/// The model that a deck means. `bytes` are a whole deck, or its first 2^30 + 1 bytes, which tell as
+/// much: a deck has at most 2^30.
+///
+/// The model is valid: rows and columns have names of their own, each entry is in a row of the
+/// model, and its numbers are within the limits.
+///
+/// # Errors
+///
+/// `Fault` exactly where the text is no deck, at its first fault. `Memory` where memory was
+/// refused, whatever the text.
 pub fn deck_of(alloc: Global, bytes: &[u8]) -> Result<Model, DeckError>
     requires { length bytes.now ≤ 2 ^ 30 + 1 }
     ensures model { IfOk result (λ m. decode bytes.now ≡ Deck m) }
@@ -46,13 +60,13 @@ pub fn deck_of(alloc: Global, bytes: &[u8]) -> Result<Model, DeckError>
         ⊎ ((line : ℕ) × (kind : ℕ) × (e ≡ DeckError.Fault line kind)
         × (decode bytes.now ≡ Fault line kind))) }
 {
-    let Ok(lines) = lines(alloc, bytes) else {
+    let Ok(lines) = Lines::of(alloc, bytes) else {
         return Err(DeckError::Memory);
     };
     let mut before = Carried::new(alloc);
     let mut section = Section::Start;
     let mut n = 1;
-    for line in lines.iter() {
+    for line in lines.as_slice() {
         let Ok(r) = record_of(alloc, n, section, line) else {
             return Err(DeckError::Memory);
         };

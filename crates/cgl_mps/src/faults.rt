@@ -6,8 +6,9 @@ ghost use Rattle.cgl_num.specs.NumberText.{is_number, limit};
 ghost use Rattle.cgl_text.specs.Text.{lines_of};
 ghost use Rattle.cgl_mps.specs.Decode.{deck_limits};
 ghost use Rattle.cgl_mps.specs.Sections.{counts_after, pairs_of, senses};
-ghost use Rattle.cgl_mps.specs.Faults.{bound_conditions, column_conditions, columns_conditions, conditions, data_conditions, each_pair, entry_conditions, fault_after, first_kind, header_conditions, is_header_form, is_long, is_marker_form, is_misplaced, is_over, is_sense_form, is_split, is_value_of, needs, no_word, pair_conditions, rank, row_conditions, sense_conditions, set_conditions, takes, value_conditions};
-ghost use Rattle.cgl_mps.specs.Seen.{word, words};
+ghost use Rattle.cgl_text.specs.Conditions.{first_kind};
+ghost use Rattle.cgl_mps.specs.Faults.{bound_conditions, column_conditions, columns_conditions, conditions, data_conditions, each_pair, entry_conditions, fault_after, header_conditions, is_header_form, is_long, is_marker_form, is_misplaced, is_sense_form, is_split, is_value_of, needs, no_word, pair_conditions, rank, row_conditions, sense_conditions, set_conditions, takes, value_conditions};
+ghost use Rattle.cgl_text.specs.Seen.{word, words};
 ghost use Rattle.cgl_mps.specs.Found.{has_sense, is_behind};
 ghost use Rattle.cgl_mps.specs.Carried.{HasPairs};
 
@@ -23,12 +24,10 @@ use crate::record::{BoundKind, Record, Section, field};
 use crate::records::is_kept;
 use crate::sections::{
     bound_in, entry_fields, has_header, is_marker, is_sense, names_row, needs_value, row_in,
-    same_bytes, sense_in, set_fields, word_at,
+    sense_in, set_fields, word_at,
 };
 use cgl_num::Limit;
-
-/// The most bytes of a deck.
-pub(crate) const MOST_BYTES: usize = 1 << 30;
+use cgl_text::{is_over, same_bytes};
 
 fn is_long(name: &[u8]) -> bool
     ensures { result ≡ is_long name.now }
@@ -442,15 +441,6 @@ fn fault_within(before: &Carried, r: &Record) -> Option<u8>
         return header_fault(before.records(), r);
     }
     data_fault(before, r)
-}
-
-/// Whether the byte past the limit stands in line n of a text with so many lines.
-fn is_over(bytes: &[u8], lines: usize, n: u64) -> bool
-    requires size { length bytes.now ≤ 2 ^ 30 + 1 }
-    requires count { lines ≡ length (lines_of bytes.now) }
-    ensures { result ≡ is_over deck_limits bytes.now n }
-{
-    bytes.len() > MOST_BYTES && lines as u64 == n
 }
 
 /// The kind of fault that the line is after the kept records before it, if it is one, in a text

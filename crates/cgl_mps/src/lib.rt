@@ -14,7 +14,6 @@ mod models_bounds;
 mod models_columns;
 mod models_rows;
 mod models_valid;
-mod name_list;
 mod names;
 mod numbers;
 mod pairs;

@@ -5,15 +5,16 @@ ghost use Rattle.std.specs.List.{list_any};
 ghost use Rattle.cgl_text.specs.Text.{is_one_of};
 ghost use Rattle.cgl_mps.specs.Sections.{senses};
 ghost use Rattle.cgl_mps.specs.Models.{last_or, name_in, model_of};
-ghost use Rattle.cgl_mps.specs.Seen.{word};
+ghost use Rattle.cgl_text.specs.Seen.{word};
 
 use crate::carried::Carried;
 use crate::models_columns::columns_of;
 use crate::models_rows::rows_of;
 use crate::record::{Record, Section};
-use crate::sections::{same_bytes, sense_in};
+use crate::sections::sense_in;
 use cgl_model::{Model, Name, Seq};
 use cgl_num::Memory;
+use cgl_text::same_bytes;
 use std::alloc::Global;
 
 /// A copy of the bytes.

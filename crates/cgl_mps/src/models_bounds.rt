@@ -1,15 +1,14 @@
 //! The bounds of columns that the records of a deck mean.
 
-ghost use Rattle.std.specs.Prelude.{◌≡◌, ◌&&◌, IfOk, pos, if◌then◌else◌, [], ◌∷◌, None, Some, bytes_eq, filter, filter_map};
+ghost use Rattle.std.specs.Prelude.{◌≡◌, ◌&&◌, IfOk, pos, if◌then◌else◌, [], ◌∷◌, None, Some, filter_map};
 ghost use Rattle.std.specs.List.{list_any, cons_option};
 ghost use Rattle.cgl_num.specs.NumberText.{whole, finite};
 ghost use Rattle.cgl_mps.specs.Models.{makes_integer, lower_by, upper_by, is_upper, value_in, is_below_zero, lower_of, upper_of, bounds_of};
 
-use crate::bound::Bound;
+use crate::bound::{Bound, Bounds};
 use crate::carried::Carried;
 use crate::numbers::limit;
 use crate::record::BoundKind;
-use crate::sections::same_bytes;
 use cgl_num::{Dec, Limit, Memory};
 use std::alloc::Global;
 
@@ -146,33 +145,13 @@ pub(crate) fn makes_integer(bounds: &[Bound]) -> bool
     })
 }
 
-/// Those of the bounds that are on the column.
-fn own_bounds<'a>(
-    alloc: Global,
-    bounds: &[Bound<'a>],
-    column: &[u8],
-) -> Result<Vec<Bound<'a>>, Memory>
-    ensures { IfOk result (λ found.
-        found.items ≡ filter (λ b. bytes_eq column.now b.column) bounds.now) }
-{
-    let mut found = Vec::new(alloc);
-    for bound in bounds {
-        if same_bytes(column, bound.column()) {
-            let Ok(()) = found.push(bound.again()) else {
-                return Err(Memory);
-            };
-        }
-    }
-    Ok(found)
-}
-
 /// The bounds that count for a column.
 pub(crate) fn bounds_of<'a>(
     alloc: Global,
     before: &Carried<'a>,
     column: &[u8],
-) -> Result<Vec<Bound<'a>>, Memory>
-    ensures { IfOk result (λ found. found.items ≡ bounds_of before.now column.now) }
+) -> Result<Bounds<'a>, Memory>
+    ensures { IfOk result (λ found. found ≡ bounds_of before.now column.now) }
 {
-    own_bounds(alloc, before.bounds().bounds(), column)
+    before.bounds().bounds().on(alloc, column)
 }

@@ -10,11 +10,11 @@ use crate::carried::Carried;
 use crate::columns::ReadColumn;
 use crate::models::copied_name;
 use crate::models_bounds::{bounds_of, lower_of, makes_integer, upper_of};
-use crate::name_list::Names;
 use crate::numbers::number;
 use crate::pairs::Pair;
 use cgl_model::{Column, Entries, Seq};
 use cgl_num::{Dec, Memory};
+use cgl_text::Names;
 use std::alloc::Global;
 
 fn entry_of(names: &Names, row: &[u8], value: &[u8]) -> Result<Option<(u32, Dec)>, Memory>
@@ -55,13 +55,14 @@ fn entries_of(alloc: Global, names: &Names, pairs: &[Pair]) -> Result<Entries, M
 fn column_of(alloc: Global, before: &Carried, column: &ReadColumn) -> Result<Column, Memory>
     ensures { IfOk result (λ made. made ≡ made_column before.now column.now) }
 {
-    let bounds = bounds_of(alloc, before, column.name())?;
+    let found = bounds_of(alloc, before, column.name())?;
+    let bounds = found.as_slice();
     Ok(Column {
         name: copied_name(alloc, column.name())?,
-        integer: column.is_marked() || makes_integer(&bounds),
-        lo: lower_of(&bounds),
-        up: upper_of(&bounds),
-        entries: entries_of(alloc, before.rows(), column.pairs())?,
+        integer: column.is_marked() || makes_integer(bounds),
+        lo: lower_of(bounds),
+        up: upper_of(bounds),
+        entries: entries_of(alloc, before.rows(), column.pairs().as_slice())?,
     })
 }
 

@@ -10,23 +10,22 @@ use crate::carried::Carried;
 use crate::models::copied_name;
 use crate::models_bounds::zero;
 use crate::numbers::number;
-use crate::pairs::Pair;
+use crate::pairs::Pairs;
 use crate::record::{Record, Section};
-use crate::sections::{is_data_in, row_in, same_bytes};
+use crate::sections::{is_data_in, row_in};
 use cgl_model::{Row, RowKind, Seq};
 use cgl_num::{Dec, Memory};
 use std::alloc::Global;
 
 /// The value of the pair that names the row.
-fn value_among(pairs: &[Pair], row: &[u8]) -> Option<Dec>
+#[tactic(auto, using(crate::proofs::ModelLaws::value_read))]
+fn value_among(pairs: &Pairs, row: &[u8]) -> Option<Dec>
     ensures { result ≡ value_at pairs.now row.now }
 {
-    for p in pairs {
-        if same_bytes(row, p.row()) {
-            return number(p.value());
-        }
+    match pairs.find(row) {
+        Some(value) => number(value),
+        None => None,
     }
-    None
 }
 
 /// The value for a row in RHS or RANGES.

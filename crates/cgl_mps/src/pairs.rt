@@ -1,12 +1,14 @@
 //! Pairs of row and value.
 
-ghost use Rattle.std.specs.Prelude.{◌≡◌, ◌++◌, OnOk};
+ghost use Rattle.std.specs.Prelude.{◌≡◌, ◌++◌, [], OnOk, option_map};
 ghost use Rattle.cgl_mps.specs.Sections.{pairs_of};
 ghost use Rattle.cgl_mps.specs.Faults.{names_row};
-ghost use Rattle.cgl_mps.specs.Seen.{words};
+ghost use Rattle.cgl_text.specs.Seen.{word, words};
+ghost use Rattle.cgl_mps.specs.Models.{value_for};
 
-use crate::sections::same_bytes;
 use cgl_num::Memory;
+use cgl_text::same_bytes;
+use std::alloc::Global;
 use std::marker::Model;
 
 #[derive(Drop)]
@@ -37,8 +39,7 @@ impl<'a> Pair<'a> {
     }
 }
 
-/// Appends the pairs that the fields are.
-pub(crate) fn push_pairs<'a>(pairs: &mut Vec<Pair<'a>>, fields: &[&'a [u8]]) -> Result<(), Memory>
+fn push_pairs<'a>(pairs: &mut Vec<Pair<'a>>, fields: &[&'a [u8]]) -> Result<(), Memory>
     ensures { OnOk result (pairs.new.items ≡ pairs.old.items ++ pairs_of (words fields.now)) }
 {
     match fields {
@@ -52,9 +53,71 @@ pub(crate) fn push_pairs<'a>(pairs: &mut Vec<Pair<'a>>, fields: &[&'a [u8]]) -> 
     }
 }
 
-/// Whether a pair names the row.
-pub(crate) fn some_names(pairs: &[Pair], row: &[u8]) -> bool
+fn value_for<'a>(pairs: &[Pair<'a>], row: &[u8]) -> Option<&'a [u8]>
+    ensures { option_map word result ≡ value_for pairs.now row.now }
+{
+    for pair in pairs {
+        if same_bytes(row, pair.row()) {
+            return Some(pair.value());
+        }
+    }
+    None
+}
+
+fn some_names(pairs: &[Pair], row: &[u8]) -> bool
     ensures { result ≡ names_row pairs.now row.now }
 {
     pairs.iter().any(|p| same_bytes(row, p.row()))
+}
+
+/// Pairs of row and value in the order in which they came, found by their rows.
+#[derive(Drop)]
+pub(crate) struct Pairs<'a> {
+    pairs: Vec<Pair<'a>>,
+}
+
+impl<'a> Model for Pairs<'a> {
+    ghost use Rattle.std.specs.Prelude.{List};
+    ghost use Rattle.cgl_mps.specs.Sections.{Pair as Said};
+
+    ghost Value = { List Said };
+
+    ghost view = { λ it. it.pairs.items };
+}
+
+impl<'a> Pairs<'a> {
+    pub(crate) fn new(alloc: Global) -> Pairs<'a>
+        ensures { result ≡ [] }
+    {
+        Pairs {
+            pairs: Vec::new(alloc),
+        }
+    }
+
+    /// Takes in the pairs that the fields are, behind the others.
+    pub(crate) fn push_fields(&mut self, fields: &[&'a [u8]]) -> Result<(), Memory>
+        ensures { OnOk result (self.new ≡ self.old ++ pairs_of (words fields.now)) }
+    {
+        push_pairs(&mut self.pairs, fields)
+    }
+
+    /// Whether a pair names the row.
+    pub(crate) fn has(&self, row: &[u8]) -> bool
+        ensures { result ≡ names_row self.now row.now }
+    {
+        some_names(self.pairs.as_slice(), row)
+    }
+
+    /// The value of the first pair that names the row.
+    pub(crate) fn find(&self, row: &[u8]) -> Option<&'a [u8]>
+        ensures { option_map word result ≡ value_for self.now row.now }
+    {
+        value_for(self.pairs.as_slice(), row)
+    }
+
+    pub(crate) fn as_slice(&self) -> &[Pair<'a>]
+        ensures { result.now ≡ self.now }
+    {
+        self.pairs.as_slice()
+    }
 }

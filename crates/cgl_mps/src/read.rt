@@ -8,17 +8,19 @@ ghost use Rattle.cgl_mps.specs.DeckResult.{deck_result};
 ghost use Rattle.cgl_outside.specs.Means.{Means, MeansFault};
 
 use crate::deck::{DeckError, deck_of};
-use crate::faults::MOST_BYTES;
 use cgl_model::Model;
 use cgl_outside::{FetchError, ReadError, Shelf, read_front};
+use cgl_text::MOST_BYTES;
 use std::alloc::Global;
 
-/// The model that the deck of this name means.
+/// The model that the deck of this name on the shelf means. The file is read from its start, up to
+/// 2^30 + 1 bytes of it. The shelf's files stay as they were.
 ///
 /// # Errors
 ///
-/// `Fault` where the file has a fault, at its first one, however long the file is.
-/// `ReadFault` where a read failed.
+/// `Fault` where the file is no deck, at its first bad line and with the kind of [`DeckError`],
+/// however long the file is. `ReadFault` where a read failed or there is no such file. `Memory`
+/// where memory was refused.
 pub fn read_deck<S: Shelf>(alloc: Global, shelf: &mut S, name: &str) -> Result<Model, ReadError>
     ensures model { IfOk result (λ m. Means (S.held shelf.old) name.now deck_result (Ok m)) }
     ensures valid { IfOk result IsValid }

@@ -1,14 +1,12 @@
 //! Lines of a deck as records.
 
 ghost use Rattle.std.specs.Prelude.{◌≡◌, IfOk};
-ghost use Rattle.cgl_text.specs.Text.{is_one_of};
-ghost use Rattle.cgl_mps.specs.Records.{is_end, is_kept, kept_fields, record_of, section_after, section_named, unsupported};
-ghost use Rattle.cgl_mps.specs.Seen.{words};
+ghost use Rattle.cgl_text.specs.Text.{is_one_of, kept_fields};
+ghost use Rattle.cgl_mps.specs.Records.{is_end, is_kept, record_of, section_after, section_named, unsupported};
 
 use crate::record::{Record, Section};
-use crate::sections::same_bytes;
 use cgl_num::Memory;
-use cgl_text::{begins_blank, fields};
+use cgl_text::{begins_blank, kept_fields, same_bytes};
 use std::alloc::Global;
 
 fn is_unsupported(name: &[u8]) -> bool
@@ -60,21 +58,6 @@ fn section_named(name: &[u8]) -> Section
         return Section::Unsupported;
     }
     Section::Unknown
-}
-
-/// The fields of a line. A comment has none.
-fn kept_fields(alloc: Global, line: &[u8]) -> Result<Vec<&[u8]>, Memory>
-    ensures { IfOk result (λ found. words found.items ≡ kept_fields line.now) }
-{
-    match line {
-        [] => Ok(Vec::new(alloc)),
-        [first, ..] => {
-            if *first == b'*' {
-                return Ok(Vec::new(alloc));
-            }
-            fields(alloc, line)
-        }
-    }
 }
 
 /// The record of line n, after a line in the section.

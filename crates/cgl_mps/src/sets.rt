@@ -2,14 +2,14 @@
 
 ghost use Rattle.std.specs.Prelude.{◌≡◌, ◌++◌, None, [], IfOk, OnOk, option_map};
 ghost use Rattle.std.specs.List.{cons_option};
-ghost use Rattle.cgl_mps.specs.declared.record.Section.TheVariants.{Bounds};
+ghost use Rattle.cgl_mps.specs.declared.record.Section.TheVariants.{Bounds as BoundLines};
 ghost use Rattle.cgl_mps.specs.Sections.{bound_in, same_set, set_in};
 ghost use Rattle.cgl_mps.specs.Faults.{names_row};
-ghost use Rattle.cgl_mps.specs.Seen.{word};
+ghost use Rattle.cgl_text.specs.Seen.{word};
 ghost use Rattle.cgl_mps.specs.Carried.{after_bound, after_pairs, counting_set};
 
-use crate::bound::Bound;
-use crate::pairs::{Pair, push_pairs, some_names};
+use crate::bound::Bounds;
+use crate::pairs::Pairs;
 use crate::record::{Record, Section};
 use crate::sections::{bound_in, same_set, set_fields, set_in};
 use cgl_num::Memory;
@@ -43,17 +43,17 @@ fn counts(first: Option<Option<&[u8]>>, own: Option<&[u8]>) -> bool
 #[derive(Drop)]
 pub(crate) struct ReadPairs<'a> {
     set: Option<Option<&'a [u8]>>,
-    pairs: Vec<Pair<'a>>,
+    pairs: Pairs<'a>,
 }
 
 impl<'a> Model for ReadPairs<'a> {
     ghost use Rattle.std.specs.Prelude.{option_map};
-    ghost use Rattle.cgl_mps.specs.Seen.{word};
+    ghost use Rattle.cgl_text.specs.Seen.{word};
     ghost use Rattle.cgl_mps.specs.Carried.{ReadPairs as Said};
 
     ghost Value = { Said };
 
-    ghost view = { λ it. record { set = option_map (option_map word) it.set; pairs = it.pairs.items } };
+    ghost view = { λ it. record { set = option_map (option_map word) it.set; pairs = it.pairs } };
 }
 
 impl<'a> ReadPairs<'a> {
@@ -62,7 +62,7 @@ impl<'a> ReadPairs<'a> {
     {
         ReadPairs {
             set: None,
-            pairs: Vec::new(alloc),
+            pairs: Pairs::new(alloc),
         }
     }
 
@@ -70,13 +70,13 @@ impl<'a> ReadPairs<'a> {
     pub(crate) fn has_value(&self, row: &[u8]) -> bool
         ensures { result ≡ names_row self.now.pairs row.now }
     {
-        some_names(self.pairs.as_slice(), row)
+        self.pairs.has(row)
     }
 
-    pub(crate) fn pairs(&self) -> &[Pair<'a>]
+    pub(crate) fn pairs(&self) -> &Pairs<'a>
         ensures { result.now ≡ self.now.pairs }
     {
-        self.pairs.as_slice()
+        &self.pairs
     }
 
     /// Whether a line of the section counts behind these.
@@ -96,7 +96,7 @@ impl<'a> ReadPairs<'a> {
         let counts = counts(set, own);
         let set = counting_set(set, own);
         if counts {
-            push_pairs(&mut pairs, set_fields(r))?;
+            pairs.push_fields(set_fields(r))?;
         }
         Ok(ReadPairs {
             set: Some(set),
@@ -106,34 +106,31 @@ impl<'a> ReadPairs<'a> {
 }
 
 /// Appends the bound that a line says.
-fn push_bound<'a>(bounds: &mut Vec<Bound<'a>>, r: &Record<'a>) -> Result<(), Memory>
-    ensures { OnOk result (bounds.new.items
-        ≡ bounds.old.items ++ cons_option (bound_in r.now.fields) []) }
+fn push_bound<'a>(bounds: &mut Bounds<'a>, r: &Record<'a>) -> Result<(), Memory>
+    ensures { OnOk result (bounds.new
+        ≡ bounds.old ++ cons_option (bound_in r.now.fields) []) }
 {
     let Some(bound) = bound_in(r.fields()) else {
         return Ok(());
     };
-    let Ok(()) = bounds.push(bound) else {
-        return Err(Memory);
-    };
-    Ok(())
+    bounds.push(bound)
 }
 
 /// The set of the first line of BOUNDS, and the bounds that count.
 #[derive(Drop)]
 pub(crate) struct ReadBounds<'a> {
     set: Option<Option<&'a [u8]>>,
-    bounds: Vec<Bound<'a>>,
+    bounds: Bounds<'a>,
 }
 
 impl<'a> Model for ReadBounds<'a> {
     ghost use Rattle.std.specs.Prelude.{option_map};
-    ghost use Rattle.cgl_mps.specs.Seen.{word};
+    ghost use Rattle.cgl_text.specs.Seen.{word};
     ghost use Rattle.cgl_mps.specs.Carried.{ReadBounds as Said};
 
     ghost Value = { Said };
 
-    ghost view = { λ it. record { set = option_map (option_map word) it.set; bounds = it.bounds.items } };
+    ghost view = { λ it. record { set = option_map (option_map word) it.set; bounds = it.bounds } };
 }
 
 impl<'a> ReadBounds<'a> {
@@ -142,20 +139,20 @@ impl<'a> ReadBounds<'a> {
     {
         ReadBounds {
             set: None,
-            bounds: Vec::new(alloc),
+            bounds: Bounds::new(alloc),
         }
     }
 
-    pub(crate) fn bounds(&self) -> &[Bound<'a>]
+    pub(crate) fn bounds(&self) -> &Bounds<'a>
         ensures { result.now ≡ self.now.bounds }
     {
-        self.bounds.as_slice()
+        &self.bounds
     }
 
     /// Whether a line of BOUNDS counts behind these.
     pub(crate) fn counts(&self, r: &Record) -> bool
         ensures { result
-            ≡ same_set (counting_set self.now.set (set_in Bounds r.now)) (set_in Bounds r.now) }
+            ≡ same_set (counting_set self.now.set (set_in BoundLines r.now)) (set_in BoundLines r.now) }
     {
         counts(self.set, set_in(Section::Bounds, r))
     }

@@ -8,7 +8,8 @@ use std::io::Write;
 use std::marker::Model;
 use std::os::unix::fs::FileExt;
 
-/// The files of the system. A name is a path.
+/// The files of the system. A name is a path. It tells no files to proofs, and each error of the
+/// system, for a missing file too, counts as a failed call.
 #[derive(Drop)]
 pub struct DirShelf<'a> {
     rt: &'a HostRuntime,
@@ -99,7 +100,8 @@ impl Shelf for DirShelf<'_> {
     }
 }
 
-/// Standard output, or standard error.
+/// Standard output, or standard error. It tells no bytes to proofs, and each error of the system
+/// counts as a failed put.
 #[derive(Drop)]
 pub struct StdSink<'a> {
     rt: &'a HostRuntime,

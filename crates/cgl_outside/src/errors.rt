@@ -1,24 +1,24 @@
 //! The errors of what reads and writes files.
 use thiserror::Error;
 
-/// What stops a reader of bytes.
+/// What stops a reader of a file's bytes.
 #[derive(Clone, Copy, Debug, PartialEq, Eq, Error)]
 pub enum FetchError {
-    /// A read failed.
+    /// A read failed, or there is no file of the name.
     #[error("a read failed")]
     ReadFault,
-    /// Want of memory.
+    /// Memory for the bytes was refused.
     #[error("out of memory")]
     Memory,
 }
 
-/// What stops a writer.
+/// What stops a writer of a text.
 #[derive(Clone, Copy, Debug, PartialEq, Eq, Error)]
 pub enum WriteError {
     /// A create, an append or a put failed.
     #[error("a write failed")]
     WriteFault,
-    /// Want of memory.
+    /// Memory for the text was refused.
     #[error("out of memory")]
     Memory,
 }
@@ -26,13 +26,14 @@ pub enum WriteError {
 /// What stops the reader of a file of a given format.
 #[derive(Clone, Copy, Debug, PartialEq, Eq, Error)]
 pub enum ReadError {
-    /// The bytes are not of the format: the first bad line, counted from 1, and the kind of its fault.
+    /// The bytes are not of the format: the first bad line, counted from 1, and the kind of its
+    /// first fault, as the format numbers the kinds.
     #[error("fault of kind {kind} in line {line}")]
     Fault { line: u64, kind: u8 },
-    /// A read failed.
+    /// A read failed, or there is no file of the name.
     #[error("a read failed")]
     ReadFault,
-    /// Want of memory.
+    /// Memory was refused.
     #[error("out of memory")]
     Memory,
 }

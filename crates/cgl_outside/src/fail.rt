@@ -2,7 +2,7 @@
 ghost use Rattle.std.specs.Prelude.{◌≡◌, ◌+◌, take};
 ghost use Rattle.cgl_outside.specs.Fails.{is_for, listed_keep};
 
-/// A kind of call of a shelf.
+/// A kind of call of a shelf: `read_at`, `create` or `append`.
 #[derive(Clone, Copy, Debug, PartialEq, Eq)]
 pub enum Call {
     Read,

@@ -52,7 +52,8 @@ impl Model for MemShelf {
 }
 
 impl MemShelf {
-    /// A shelf with no files. Of several entries for one call the first counts.
+    /// A shelf with no files, whose calls fail where an entry lists them. Of several entries for one
+    /// call the first counts.
     #[tactic(auto, using(crate::proofs::FilesRules::no_files))]
     pub fn new(alloc: Global, fails: Vec<Fail>) -> MemShelf
         ensures { result ≡ record {
@@ -80,6 +81,10 @@ impl MemShelf {
     }
 
     /// Gives the name these bytes. It counts as no call.
+    ///
+    /// # Errors
+    ///
+    /// `Memory` where memory for the file is refused. Nothing changes.
     pub fn put_file(&mut self, name: &str, bytes: &[u8]) -> Result<(), Memory>
         ensures ok { OnOk result (self.new ≡ record self.old { files = map.insert self.old.files name.now bytes.now }) }
         ensures err { OnErr result (self.new ≡ self.old) }
@@ -100,7 +105,7 @@ impl MemShelf {
         look_up(&self.files, name)
     }
 
-    /// How often a growth was refused.
+    /// How often memory was refused to a call.
     pub fn refused(&self) -> u64
         ensures { result ≡ self.now.refused }
     {

@@ -56,14 +56,14 @@ impl MemSink {
         }
     }
 
-    /// The bytes that it got.
+    /// The bytes that it got, in order.
     pub fn bytes(&self) -> &[u8]
         ensures { result.now ≡ self.now.bytes }
     {
         &self.bytes
     }
 
-    /// How often a growth was refused.
+    /// How often memory was refused to a put.
     pub fn refused(&self) -> u64
         ensures { result ≡ self.now.refused }
     {

@@ -7,9 +7,12 @@ pub struct Failed;
 
 /// A set of named files, read and written in pieces.
 ///
-/// A shelf may tell its files to proofs. Clauses on content hold where it does. Whether it tells
-/// never changes. A call fails only where the count of failed calls of its kind rose in it, or
-/// where a file that is read or appended to is not there: then the counts stay.
+/// A name is text, and a file is bytes. A shelf may tell its files to proofs. Clauses on content
+/// hold where it does. Whether it tells never changes.
+///
+/// A call fails only where the count of failed calls of its kind rose in it, or where a file that
+/// is read or appended to is not there: then the counts stay. A count never falls, and a count at
+/// the end of its type, 2^64 - 1, stands still.
 pub trait Shelf {
     /// The files, where the shelf tells them.
     ghost held: { Self → Held };
@@ -20,8 +23,9 @@ pub trait Shelf {
     /// How often a create or an append has failed.
     ghost failed_writes: { Self → ℕ };
 
-    /// Puts bytes of a file, from the byte `at` on, at the start of `buf`, and gives their number.
-    /// It is 0 exactly where `at` is at or past the end.
+    /// Puts bytes of a file, from the byte `at` on (the first is 0), at the start of `buf`, which is
+    /// not empty, and gives their number: at most the length of `buf`, and 0 exactly where `at` is
+    /// at or past the end of the file. Fewer may come than there are.
     ///
     /// # Errors
     ///
@@ -35,7 +39,7 @@ pub trait Shelf {
         ensures reads { Counts (failed_reads self.old) (failed_reads self.new) result (Lacks (held self.old) name.now) }
         ensures writes { failed_writes self.new ≡ failed_writes self.old };
 
-    /// Gives the name a file with no bytes.
+    /// Gives the name a file with no bytes, in place of the one that it may have.
     ///
     /// # Errors
     ///
@@ -50,8 +54,8 @@ pub trait Shelf {
     ///
     /// # Errors
     ///
-    /// `Failed` where the append failed or there is no such file. A front of the bytes may stand at
-    /// the end.
+    /// `Failed` where the append failed or there is no such file. The first of the bytes, none of
+    /// them or all may stand at the end of the file.
     fn append(&mut self, name: &str, bytes: &[u8]) -> Result<(), Failed>
         ensures ok { OnOk result (held self.new ≡ with_more (held self.old) name.now bytes.now) }
         ensures found { OnOk result (IsSome (held self.old) → IsSome (file_of (held self.old) name.now)) }

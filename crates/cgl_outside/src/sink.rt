@@ -6,19 +6,21 @@ use crate::Failed;
 
 /// An output that bytes are put on, in pieces.
 ///
-/// An output may tell its bytes to proofs, and whether it tells never changes.
+/// An output may tell its bytes to proofs, and whether it tells never changes. A put fails only
+/// where the count of faults rose in it, or stands at the end of its type, 2^64 - 1.
 pub trait Sink {
     /// The bytes that it got, where it tells them.
     ghost written: { Self → Option (List ℕ) };
 
-    /// How often a put has failed.
+    /// How often `put` has failed. It never falls.
     ghost faults: { Self → ℕ };
 
     /// Puts bytes at the end.
     ///
     /// # Errors
     ///
-    /// `Failed` where the put failed. A front of the bytes may stand at the end.
+    /// `Failed` where the put failed. The first of the bytes, none of them or all may stand at the
+    /// end of the output.
     fn put(&mut self, bytes: &[u8]) -> Result<(), Failed>
         ensures ok { OnOk result (written self.new ≡ with_put (written self.old) bytes.now) }
         ensures err { OnErr result ((kept : ℕ) × (written self.new ≡ with_put (written self.old) (take kept bytes.now))) }

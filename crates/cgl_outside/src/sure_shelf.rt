@@ -12,7 +12,8 @@ use std::alloc::Global;
 use std::collections::BTreeMap;
 use std::marker::Model;
 
-/// Files in memory. A growth that is refused is a fault of its call.
+/// Files in memory. A read fails only where there is no such file, a create only where memory is
+/// refused, and an append only for either cause.
 #[derive(Drop)]
 pub struct SureShelf {
     alloc: Global,
@@ -45,6 +46,10 @@ impl SureShelf {
     }
 
     /// Gives the name these bytes. It counts as no call.
+    ///
+    /// # Errors
+    ///
+    /// `Memory` where memory for the file is refused. Nothing changes.
     pub fn put_file(&mut self, name: &str, bytes: &[u8]) -> Result<(), Memory>
         ensures ok { OnOk result (self.new ≡ record self.old { files = map.insert self.old.files name.now bytes.now }) }
         ensures err { OnErr result (self.new ≡ self.old) }
@@ -65,7 +70,7 @@ impl SureShelf {
         look_up(&self.files, name)
     }
 
-    /// How often a growth was refused.
+    /// How often memory was refused to a call.
     pub fn refused(&self) -> u64
         ensures { result ≡ self.now.refused }
     {

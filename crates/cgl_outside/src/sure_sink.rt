@@ -7,7 +7,7 @@ use crate::{Failed, Sink};
 use std::alloc::Global;
 use std::marker::Model;
 
-/// An output in memory. A growth that is refused is a fault of its call.
+/// An output in memory. A put fails only where memory is refused, and then puts nothing.
 #[derive(Drop)]
 pub struct SureSink {
     bytes: Vec<u8>,
@@ -35,14 +35,14 @@ impl SureSink {
         }
     }
 
-    /// The bytes that it got.
+    /// The bytes that it got, in order.
     pub fn bytes(&self) -> &[u8]
         ensures { result.now ≡ self.now.bytes }
     {
         &self.bytes
     }
 
-    /// How often a growth was refused.
+    /// How often memory was refused to a put.
     pub fn refused(&self) -> u64
         ensures { result ≡ self.now.refused }
     {

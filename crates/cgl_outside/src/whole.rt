@@ -48,11 +48,12 @@ fn read_more<S: Shelf>(
     Ok(count > 0)
 }
 
-/// The first bytes of a file, at most so many, read from its start upwards.
+/// The first `most` bytes of a file, or all where it has fewer, read from its start upwards.
 ///
 /// # Errors
 ///
-/// `ReadFault` where a read failed.
+/// `ReadFault` where a read failed or there is no such file. `Memory` where memory for the bytes is
+/// refused.
 pub fn read_front<S: Shelf>(
     alloc: Global,
     shelf: &mut S,
@@ -82,12 +83,11 @@ pub fn read_front<S: Shelf>(
     Ok(bytes)
 }
 
-/// Writes a file whole, in pieces behind one another. Where a call fails, the name is as it was or
-/// has a front of the bytes.
+/// Writes a file whole, in pieces behind one another, in place of the one that may have the name.
 ///
 /// # Errors
 ///
-/// `Failed` where a create or an append failed.
+/// `Failed` where a create or an append failed. The name is as it was, or has the first of the bytes.
 pub fn write_whole<S: Shelf>(shelf: &mut S, name: &str, bytes: &[u8]) -> Result<(), Failed>
     ensures ok { OnOk result (S.held shelf.new ≡ with_file (S.held shelf.old) name.now bytes.now) }
     ensures stands { OnErr result ((S.held shelf.new ≡ S.held shelf.old)

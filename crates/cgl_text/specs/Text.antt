@@ -1,5 +1,5 @@
 -- Lines and fields of a text.
-use Rattle.std.specs.Prelude.{ℕ, ◌==◌, Bool, true, ◌||◌, if◌then◌else◌, List, [], ◌∷◌, bytes_eq}
+use Rattle.std.specs.Prelude.{ℕ, ◌+◌, ◌^◌, ◌==◌, nat_lt, Bool, true, false, ◌&&◌, ◌||◌, if◌then◌else◌, List, [], ◌∷◌, bytes_eq, length, take}
 use Rattle.std.specs.List.{list_any, onto_first}
 use Rattle.cgl_num.specs.NumberText.{Word}
 
@@ -7,6 +7,14 @@ use Rattle.cgl_num.specs.NumberText.{Word}
 abbrev pub lines_of : List ℕ → List (List ℕ)
 lines_of [] = []
 lines_of (b ∷ bytes) = if b == 10 then [] ∷ lines_of bytes else onto_first b (lines_of bytes)
+
+-- how many bytes a text may have
+abbrev pub most_bytes : ℕ
+most_bytes = 2 ^ 30
+
+-- the byte past the limit stands in line n, from 1
+abbrev pub is_over : ℕ → List ℕ → ℕ → Bool
+is_over most bytes n = nat_lt most (length bytes) && length (lines_of (take (most + 1) bytes)) == n
 
 -- space, tab and CR
 abbrev pub is_blank : ℕ → Bool
@@ -20,6 +28,15 @@ begins_blank (b ∷ bytes) = is_blank b
 abbrev pub fields_of : List ℕ → List Word
 fields_of [] = []
 fields_of (b ∷ bytes) = if is_blank b then fields_of bytes else if begins_blank bytes then (b ∷ []) ∷ fields_of bytes else onto_first b (fields_of bytes)
+
+-- the fields of a line; a comment has none
+abbrev pub kept_fields : List ℕ → List Word
+kept_fields [] = []
+kept_fields (b ∷ bytes) = if b == 42 then [] else fields_of (b ∷ bytes)
+
+abbrev pub no_field : List Word → Bool
+no_field [] = true
+no_field (word ∷ words) = false
 
 abbrev pub is_one_of : List Word → Word → Bool
 is_one_of words word = list_any (bytes_eq word) words

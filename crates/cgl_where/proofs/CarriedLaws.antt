@@ -16,16 +16,17 @@ use Rattle.cgl_num.specs.Fraction.{Fraction}
 use Rattle.cgl_num.specs.NumberText.{Word}
 use Rattle.cgl_model.specs.declared.mip.Column.{Column}
 use denote.Ref.{Bor}
-use Rattle.cgl_text.specs.Text.{lines_of}
+use Rattle.cgl_text.specs.Text.{lines_of, is_over, most_bytes}
 use Rattle.cgl_model.specs.declared.mip.Model.{Model}
 use Rattle.cgl_model.specs.Point.{Point}
 use Rattle.cgl_where.specs.Reading.{read_from}
-use Rattle.cgl_where.specs.Seen.{words}
+use Rattle.cgl_text.specs.Seen.{words}
 use Rattle.cgl_where.proofs.ReadingLaws.{line_passes, line_stops, over_at, point_reads, within_limits}
 use Rattle.cgl_where.proofs.FrontLaws.{fault_over}
 use Rattle.cgl_where.specs.declared.carried.Carried.{Carried}
 use Rattle.cgl_where.specs.PointValue.{value}
-use Rattle.cgl_where.specs.PointFile.{Record, field, is_kept, kept, names_column, column_names, values, value_at, common_denominator, lcm, is_too_fine, zero_fraction, first_kind, value_conditions, record_of, is_over, most_bytes, fault_after, point_of, point_in, Fault, Values}
+use Rattle.cgl_text.specs.Conditions.{first_kind}
+use Rattle.cgl_where.specs.PointFile.{Record, field, is_kept, kept, names_column, column_names, values, value_at, common_denominator, lcm, is_too_fine, zero_fraction, value_conditions, record_of, fault_after, point_of, point_in, Fault, Values}
 use Rattle.cgl_where.specs.Carried.{column_number, named_at, found_value, is_wide, grown_denominator, carried_conditions, carried_value, IsSound, Carries, TakesIn, FollowsLine}
 use Rattle.cgl_where.specs.Limits.{ArePositive}
 use Rattle.cgl_where.specs.Laws.{DivideAll}
@@ -91,14 +92,6 @@ no_position p xs = ap not (sym (passes p xs)) ∙ sym (none_where (nat_lt (posit
 some_of_none : {X : Type 0} (o : Option X) → is_none o ≡ false → (x : X) × (o ≡ Some x)
 some_of_none None e = cc
 some_of_none (Some x) e = (x, refl)
-
-prefix_map : {X Y : Type 0} (f : X → Y) (p : Y → Bool) (xs : List X) → position_or_len p (map f xs) ≡ position_or_len (λ x. p (f x)) xs
-prefix_map f p [] = refl
-prefix_map f p (x ∷ xs) = ap (λ n. cond (not (p (f x))) (1 + n) 0) (prefix_map f p xs)
-
-pub position_map : {X Y : Type 0} (f : X → Y) (p : Y → Bool) (xs : List X) → position (λ x. p (f x)) xs ≡ position p (map f xs)
-position_map f p xs =
-    ap₂ (λ n m. cond (nat_lt n m) (Some n) None) (sym (prefix_map f p xs)) (sym (length-map xs f))
 
 pub number_within : (m : Model) (name : Word) (j : ℕ) → column_number m name ≡ Some j → j < length m.cols
 number_within m name j e =

@@ -1,43 +1,21 @@
 -- One reading, line by line, gives the outcome that the filters over all records say.
-use Rattle.std.proofs.Common.{◌≡◌, refl, sym, ap, ap₂, ◌∙◌, arith, ℕ, ◌+◌, ◌<◌, ◌≤◌, nat_lt, Bool, true, false, cond, List, [], ◌∷◌, ◌++◌, append-nil, append_assoc, length, drop, get_or, filter_map, option_map, Option, Some, None}
+use Rattle.std.proofs.Common.{◌≡◌, refl, sym, ap, ◌∙◌, arith, ℕ, ◌+◌, ◌<◌, ◌≤◌, nat_lt, Bool, true, false, cond, List, [], ◌∷◌, ◌++◌, append-nil, append_assoc, length, drop, get_or, filter_map, option_map, Option, Some, None}
 use Rattle.std.specs.List.{cons_option}
 use Rattle.std.proofs.lemmas.List.{drop_more}
-use Rattle.std.proofs.lemmas.List.Elements.{filter-append, filter_map-append}
-use Rattle.std.proofs.lemmas.Bool.Decides.{nat_tests}
+use Rattle.std.proofs.lemmas.List.Elements.{filter-append}
 use denote.Ref.{Bor}
-use Rattle.cgl_text.specs.Text.{lines_of}
+use Rattle.cgl_text.specs.Text.{lines_of, is_over, most_bytes}
 use Rattle.cgl_model.specs.declared.mip.Model.{Model}
-use Rattle.cgl_where.specs.PointFile.{Record, record_of, records_from, records, before, kept, is_kept, values, is_too_fine, is_over, most_bytes, first_kind, value_conditions, fault_after, fault_at, point_of, Outcome, Fault, outcome}
+use Rattle.cgl_text.specs.Conditions.{first_kind}
+use Rattle.cgl_where.specs.PointFile.{Record, record_of, records_from, records, before, kept, is_kept, values, is_too_fine, value_conditions, fault_after, fault_at, point_of, Outcome, Fault, outcome}
 use Rattle.cgl_where.specs.Reading.{turn, read_from, ReadsAlike}
-use Rattle.cgl_where.specs.Seen.{words}
+use Rattle.cgl_text.specs.Seen.{words}
+use Rattle.cgl_text.proofs.RecordLaws.{AllBelow, before-all, below-push, first-found, not_below}
 
 -- ---- the records before a line
 
-not_below : (n m : ℕ) → m ≤ n → nat_lt n m ≡ false
-not_below n m le = grind (arith, nat_tests)
-
-is_below : (n m : ℕ) → n < m → nat_lt n m ≡ true
-is_below n m lt = grind (arith, nat_tests)
-
-first-fault : {X Y : Type 0} (h : X → Option Y) (xs ys : List X) (x : X) → filter_map h xs ≡ [] → filter_map h (xs ++ x ∷ ys) ≡ cons_option (h x) (filter_map h ys)
-first-fault h xs ys x none = filter_map-append h xs (x ∷ ys) ∙ ap (λ l. l ++ cons_option (h x) (filter_map h ys)) none
-
--- each of these stands before line n
-abbrev AllBelow : ℕ → List Record → Type 0
-AllBelow n [] = Unit {0}
-AllBelow n (r ∷ rs) = (r.line < n) × AllBelow n rs
-
-below-push : (n : ℕ) (rs : List Record) (r : Record) → r.line ≡ n → AllBelow n rs → AllBelow (n + 1) (rs ++ r ∷ [])
-below-push n [] r at all = (omega (arith, at), tt)
-below-push n (s ∷ rs) r at all = (omega (arith, all.0), below-push n rs r at all.1)
-
-kept-below : (n : ℕ) (r : Record) (rs : List Record) → r.line < n → before n (kept rs) ≡ kept rs → (b : Bool) → before n (cond b (r ∷ kept rs) (kept rs)) ≡ cond b (r ∷ kept rs) (kept rs)
-kept-below n r rs lt all true = ap (λ c. cond c (r ∷ before n (kept rs)) (before n (kept rs))) (is_below r.line n lt) ∙ ap (λ l. r ∷ l) all
-kept-below n r rs lt all false = all
-
-before-kept : (n : ℕ) (rs : List Record) → AllBelow n rs → before n (kept rs) ≡ kept rs
-before-kept n [] all = refl
-before-kept n (r ∷ rs) all = kept-below n r rs all.0 (before-kept n rs all.1) (is_kept r)
+abbrev line_of_record : Record → ℕ
+line_of_record r = r.line
 
 none-later : (m : ℕ) (r : Record) (rs : List Record) → m ≤ r.line → before m (kept rs) ≡ [] → (k : Bool) → before m (cond k (r ∷ kept rs) (kept rs)) ≡ []
 none-later m r rs le none true = ap (λ c. cond c (r ∷ before m (kept rs)) (before m (kept rs))) (not_below r.line m le) ∙ none
@@ -47,15 +25,6 @@ before-later : (m n : ℕ) (lines : List (List ℕ)) → m ≤ n → before m (k
 before-later m n [] le = refl
 before-later m n (line ∷ lines) le =
     none-later m (record_of n line) (records_from (n + 1) lines) le (before-later m (n + 1) lines (omega arith)) (is_kept (record_of n line))
-
--- the records before line n, seen from the whole list
-before-all : (all : List Record) (n : ℕ) (done later : List Record) → all ≡ done ++ later → AllBelow n done → before n (kept later) ≡ [] → before n (kept all) ≡ kept done
-before-all all n done later parts below none =
-    ap (λ l. before n (kept l)) parts
-    ∙ ap (before n) (filter-append is_kept done later)
-    ∙ filter-append (λ r. nat_lt r.line n) (kept done) (kept later)
-    ∙ ap₂ (λ a b. a ++ b) (before-kept n done below) none
-    ∙ append-nil (kept done)
 
 -- ---- one line after another
 
@@ -71,14 +40,14 @@ one-turn most bytes m all done others r later parts fine here goes_on (Some kind
     let found : fault_at most bytes m all r ≡ Some (r.line, kind) = ap (λ b. option_map (λ k. (r.line, k)) (fault_after most bytes m b r)) here ∙ ap (option_map (λ k. (r.line, k))) is in
     ap (λ f. outcome m f all)
     (ap (filter_map (fault_at most bytes m all)) parts
-    ∙ first-fault (fault_at most bytes m all) done others r fine
+    ∙ first-found (fault_at most bytes m all) done others r fine
     ∙ ap (λ o. cons_option o (filter_map (fault_at most bytes m all) others)) found)
 one-turn most bytes m all done others r later parts fine here goes_on None is = goes_on is
 
 go : (most : ℕ) (bytes : List ℕ) (m : Model) (all : List Record) (lines : List (List ℕ)) (n : ℕ) (done : List Record)
     → all ≡ done ++ records_from n lines
     → filter_map (fault_at most bytes m all) done ≡ []
-    → AllBelow n done
+    → AllBelow line_of_record n done
     → outcome m (filter_map (fault_at most bytes m all) all) all ≡ read_from most bytes m n (kept done) lines
 go most bytes m all [] n done parts fine below =
     ap (λ l. outcome m (filter_map (fault_at most bytes m all) l) l) (parts ∙ append-nil done)
@@ -86,14 +55,14 @@ go most bytes m all [] n done parts fine below =
 go most bytes m all (line ∷ lines) n done parts fine below =
     let r = record_of n line in
     let others = records_from (n + 1) lines in
-    let here : before n (kept all) ≡ kept done = before-all all n done (records_from n (line ∷ lines)) parts below (before-later n n (line ∷ lines) (omega arith)) in
+    let here : before n (kept all) ≡ kept done = before-all line_of_record is_kept all n done (records_from n (line ∷ lines)) parts below (before-later n n (line ∷ lines) (omega arith)) in
     one-turn most bytes m all done others r (read_from most bytes m (n + 1) (kept done ++ kept (r ∷ [])) lines) parts fine here
     (λ is.
     let good : fault_at most bytes m all r ≡ None = ap (λ b. option_map (λ k. (r.line, k)) (fault_after most bytes m b r)) here ∙ ap (option_map (λ k. (r.line, k))) is in
     go most bytes m all lines (n + 1) (done ++ r ∷ [])
     (parts ∙ sym (append_assoc done (r ∷ []) others))
-    (first-fault (fault_at most bytes m all) done [] r fine ∙ ap (λ o. cons_option o []) good)
-    (below-push n done r refl below)
+    (first-found (fault_at most bytes m all) done [] r fine ∙ ap (λ o. cons_option o []) good)
+    (below-push line_of_record n done r refl below)
     ∙ ap (λ l. read_from most bytes m (n + 1) l lines) (filter-append is_kept done (r ∷ [])))
     (fault_after most bytes m (kept done) r) refl
 

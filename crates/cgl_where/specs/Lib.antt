@@ -2,7 +2,6 @@ pub mod PointValue
 pub mod PointFile
 pub mod Limits
 pub mod Reading
-pub mod Seen
 pub mod Carried
 pub mod Laws
 pub mod PointRead

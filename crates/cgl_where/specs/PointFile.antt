@@ -1,10 +1,11 @@
 -- What the bytes of a point file mean for a model: a point, or the line and the kind of the first fault.
-use Rattle.std.specs.Prelude.{ℕ, ◌+◌, ◌*◌, ◌/◌, ◌^◌, ◌==◌, nat_lt, nat_le, ℤ, pos, ◌*ℤ◌, unsigned_abs, Bool, true, false, not, ◌&&◌, ◌||◌, List, [], ◌∷◌, ◌++◌, bytes_eq, length, map, take, find, filter, filter_map, Option, Some, None, is_none, option_map, option_and_then, unwrap_or, if◌then◌else◌, slice_get}
+use Rattle.std.specs.Prelude.{ℕ, ◌+◌, ◌*◌, ◌/◌, ◌^◌, ◌==◌, nat_lt, nat_le, ℤ, pos, ◌*ℤ◌, unsigned_abs, Bool, not, ◌||◌, List, [], ◌∷◌, ◌++◌, bytes_eq, length, map, find, filter, filter_map, Option, is_none, option_map, option_and_then, unwrap_or, if◌then◌else◌, slice_get}
 use Rattle.std.specs.List.{list_any}
 use Rattle.cgl_num.specs.Fraction.{Fraction}
 use Rattle.cgl_num.specs.Gcd.{gcd}
 use Rattle.cgl_num.specs.NumberText.{Word}
-use Rattle.cgl_text.specs.Text.{lines_of, fields_of, is_one_of}
+use Rattle.cgl_text.specs.Conditions.{Condition, first_kind}
+use Rattle.cgl_text.specs.Text.{lines_of, kept_fields, no_field, is_one_of, is_over, most_bytes}
 use Rattle.cgl_model.specs.declared.mip.Model.{Model}
 use Rattle.cgl_model.specs.Point.{Point}
 use Rattle.cgl_where.specs.PointValue.{value}
@@ -17,11 +18,6 @@ pub record Record : Type 0 where
   pub bytes : ℕ
   pub fields : List Word
 
--- the fields of a line; a comment has none
-abbrev pub kept_fields : List ℕ → List Word
-kept_fields [] = []
-kept_fields (b ∷ bytes) = if b == 42 then [] else fields_of (b ∷ bytes)
-
 abbrev pub record_of : ℕ → List ℕ → Record
 record_of n line = record { line = n; bytes = length line; fields = kept_fields line }
 
@@ -31,10 +27,6 @@ records_from n (line ∷ lines) = record_of n line ∷ records_from (n + 1) line
 
 abbrev pub records : List ℕ → List Record
 records bytes = records_from 1 (lines_of bytes)
-
-abbrev pub no_field : List Word → Bool
-no_field [] = true
-no_field (word ∷ words) = false
 
 abbrev pub is_kept : Record → Bool
 is_kept r = not (no_field r.fields)
@@ -74,22 +66,6 @@ is_too_fine fs =
     || list_any (λ f. nat_le (2 ^ 100) (unsigned_abs (numerator_over (common_denominator fs) f))) fs
 
 -- ---- faults
-
--- how many bytes a file may have
-abbrev pub most_bytes : ℕ
-most_bytes = 2 ^ 30
-
--- the byte past the limit stands in line n
-abbrev pub is_over : ℕ → List ℕ → ℕ → Bool
-is_over most bytes n = nat_lt most (length bytes) && length (lines_of (take (most + 1) bytes)) == n
-
-abbrev pub Condition : Type 0
-Condition = Bool × ℕ
-
--- the kind of the first that holds
-abbrev pub first_kind : List Condition → Option ℕ
-first_kind [] = None
-first_kind (condition ∷ conditions) = if condition.0 then Some condition.1 else first_kind conditions
 
 abbrev pub column_names : Model → List Word
 column_names m = map (λ c. c.name) m.cols

@@ -3,14 +3,15 @@
 ghost use Rattle.std.specs.Prelude.{◌≡◌, ◌<◌, ◌∷◌, ◌++◌, [], length, map, slice_set, IfOk, OnOk, None, Some, false};
 ghost use Rattle.cgl_where.specs.Carried.{Carries, FollowsLine, IsSound, TakesIn, carried_conditions, carried_value, named_at};
 ghost use Rattle.cgl_where.specs.Limits.{ArePositive};
-ghost use Rattle.cgl_where.specs.PointFile.{first_kind, is_too_fine, point_in};
+ghost use Rattle.cgl_text.specs.Conditions.{first_kind};
+ghost use Rattle.cgl_where.specs.PointFile.{is_too_fine, point_in};
 
-use crate::columns::column_number;
+use crate::columns::Columns;
 use crate::denominators::{grown_denominator, point_in};
 use crate::record::{Record, field};
 use crate::records::is_kept;
 use crate::values::{value, zero};
-use cgl_model::{Column, Model, Point};
+use cgl_model::{Column, Point};
 use cgl_num::{Frac, Memory};
 use std::alloc::Global;
 
@@ -52,13 +53,16 @@ fn named_at(named: &[Option<Frac>], number: Option<usize>) -> Option<Frac>
 }
 
 /// The value of each column.
-fn column_values(alloc: Global, model: &Model, named: &[Option<Frac>]) -> Result<Vec<Frac>, Memory>
-    ensures { IfOk result (λ found. found.items ≡ map (λ c. carried_value model.now named.now c.name) model.now.cols) }
+fn column_values(
+    alloc: Global,
+    columns: &Columns,
+    named: &[Option<Frac>],
+) -> Result<Vec<Frac>, Memory>
+    ensures { IfOk result (λ found. found.items ≡ map (λ c. carried_value columns.now named.now c.name) columns.now.cols) }
 {
-    let columns = model.cols.as_slice();
     let mut found = Vec::new(alloc);
-    for c in columns {
-        let number = column_number(model, c.name.as_slice());
+    for c in columns.as_slice() {
+        let number = columns.find(c.name.as_slice());
         let Ok(()) = found.push(named_at(named, number).unwrap_or(zero())) else {
             return Err(Memory);
         };
@@ -68,10 +72,10 @@ fn column_values(alloc: Global, model: &Model, named: &[Option<Frac>]) -> Result
 
 impl Carried {
     /// Before the first line.
-    pub(crate) fn new(alloc: Global, model: &Model) -> Result<Carried, Memory>
-        ensures { IfOk result (λ it. Carries model.now [] it) }
+    pub(crate) fn new(alloc: Global, columns: &Columns) -> Result<Carried, Memory>
+        ensures { IfOk result (λ it. Carries columns.now [] it) }
     {
-        let Ok(named) = unnamed(alloc, model.cols.as_slice()) else {
+        let Ok(named) = unnamed(alloc, columns.as_slice()) else {
             return Err(Memory);
         };
         Ok(Carried {
@@ -97,15 +101,15 @@ impl Carried {
     }
 
     /// Takes in the value of a line that has fields, unless the line is a fault. The kind of the fault.
-    fn take_value(&mut self, model: &Model, r: &Record) -> Result<Option<u8>, Memory>
-        requires { IsSound model.now self.old }
-        ensures kind { IfOk result (λ kind. kind ≡ first_kind (carried_conditions model.now self.old r.now)) }
-        ensures taken { IfOk result (λ kind. kind ≡ None → TakesIn model.now r.now self.old self.new) }
+    fn take_value(&mut self, columns: &Columns, r: &Record) -> Result<Option<u8>, Memory>
+        requires { IsSound columns.now self.old }
+        ensures kind { IfOk result (λ kind. kind ≡ first_kind (carried_conditions columns.now self.old r.now)) }
+        ensures taken { IfOk result (λ kind. kind ≡ None → TakesIn columns.now r.now self.old self.new) }
     {
         if r.fields().len() != 2 {
             return Ok(Some(3));
         }
-        let Some(column) = column_number(model, field(r, 0)) else {
+        let Some(column) = columns.find(field(r, 0)) else {
             return Ok(Some(6));
         };
         if named_at(self.named.as_slice(), Some(column)).is_some() {
@@ -127,12 +131,12 @@ impl Carried {
     /// Takes in a line, unless it is a fault. The kind of the fault. The byte past the limit may stand in the line.
     pub(crate) fn take_line(
         &mut self,
-        model: &Model,
+        columns: &Columns,
         r: &Record,
         over: bool,
     ) -> Result<Option<u8>, Memory>
-        requires { IsSound model.now self.old }
-        ensures { IfOk result (λ kind. FollowsLine model.now r.now over kind self.old self.new) }
+        requires { IsSound columns.now self.old }
+        ensures { IfOk result (λ kind. FollowsLine columns.now r.now over kind self.old self.new) }
     {
         if over {
             return Ok(Some(12));
@@ -143,17 +147,17 @@ impl Carried {
         if !is_kept(r) {
             return Ok(None);
         }
-        self.take_value(model, r)
+        self.take_value(columns, r)
     }
 
     /// The values of the columns over their least common denominator.
-    pub(crate) fn point(&self, alloc: Global, model: &Model) -> Result<Point, Memory>
-        requires positive { ArePositive (map (λ c. carried_value model.now self.now.named.items c.name) model.now.cols) }
-        requires within { is_too_fine (map (λ c. carried_value model.now self.now.named.items c.name) model.now.cols) ≡ false }
-        ensures point { IfOk result (λ x. x ≡ point_in (map (λ c. carried_value model.now self.now.named.items c.name) model.now.cols)) }
-        ensures sized { IfOk result (λ x. length x.p ≡ length model.now.cols) }
+    pub(crate) fn point(&self, alloc: Global, columns: &Columns) -> Result<Point, Memory>
+        requires positive { ArePositive (map (λ c. carried_value columns.now self.now.named.items c.name) columns.now.cols) }
+        requires within { is_too_fine (map (λ c. carried_value columns.now self.now.named.items c.name) columns.now.cols) ≡ false }
+        ensures point { IfOk result (λ x. x ≡ point_in (map (λ c. carried_value columns.now self.now.named.items c.name) columns.now.cols)) }
+        ensures sized { IfOk result (λ x. length x.p ≡ length columns.now.cols) }
     {
-        let values = column_values(alloc, model, self.named.as_slice())?;
+        let values = column_values(alloc, columns, self.named.as_slice())?;
         point_in(alloc, values.as_slice())
     }
 }

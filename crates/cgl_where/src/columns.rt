@@ -1,22 +1,62 @@
 //! The columns of a model by their names.
 
-ghost use Rattle.std.specs.Prelude.{◌≡◌, bytes_eq, position};
+ghost use Rattle.std.specs.Prelude.{◌≡◌, ◌++◌, IfOk, OnOk, map};
+ghost use Rattle.cgl_where.specs.PointFile.{column_names};
 ghost use Rattle.cgl_where.specs.Carried.{column_number};
 
-use crate::records::same_bytes;
 use cgl_model::{Column, Model};
+use cgl_num::Memory;
+use cgl_text::Names;
+use std::alloc::Global;
 
-fn name_place(columns: &[Column], name: &[u8]) -> Option<usize>
-    ensures { result ≡ position (λ c. bytes_eq name.now c.name) columns.now }
+fn push_names<'a>(names: &mut Names<'a>, columns: &'a [Column]) -> Result<(), Memory>
+    ensures { OnOk result (names.new ≡ names.old ++ map (λ c. c.name) columns.now) }
 {
-    columns
-        .iter()
-        .position(|c| same_bytes(name, c.name.as_slice()))
+    for column in columns {
+        names.push(column.name.as_slice())?;
+    }
+    Ok(())
 }
 
-/// The number of the first column of the name.
-pub(crate) fn column_number(model: &Model, name: &[u8]) -> Option<usize>
-    ensures { result ≡ column_number model.now name.now }
-{
-    name_place(model.cols.as_slice(), name)
+/// A model whose columns are found by their names.
+#[derive(Drop)]
+pub(crate) struct Columns<'a> {
+    model: &'a Model,
+    names: Names<'a>,
+}
+
+impl<'a> std::marker::Model for Columns<'a> {
+    ghost use Rattle.std.specs.Prelude.{◌≡◌};
+    ghost use Rattle.cgl_model.specs.declared.mip.Model.{Model as Said};
+    ghost use Rattle.cgl_where.specs.PointFile.{column_names};
+
+    ghost Value = { Said };
+
+    ghost view = { λ it. it.model.now };
+
+    ghost invariant = { λ it. it.names ≡ column_names it.model.now };
+}
+
+impl<'a> Columns<'a> {
+    pub(crate) fn of(alloc: Global, model: &'a Model) -> Result<Columns<'a>, Memory>
+        ensures { IfOk result (λ it. it ≡ model.now) }
+    {
+        let mut names = Names::new(alloc);
+        push_names(&mut names, model.cols.as_slice())?;
+        Ok(Columns { model, names })
+    }
+
+    /// The columns in their order.
+    pub(crate) fn as_slice(&self) -> &[Column]
+        ensures { result.now ≡ self.now.cols }
+    {
+        self.model.cols.as_slice()
+    }
+
+    /// The number of the first column of the name.
+    pub(crate) fn find(&self, name: &[u8]) -> Option<usize>
+        ensures { result ≡ column_number self.now name.now }
+    {
+        self.names.find(name)
+    }
 }

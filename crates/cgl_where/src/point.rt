@@ -1,48 +1,42 @@
 ghost use Rattle.std.specs.Prelude.{◌≡◌, ◌⊎◌, ℕ, ◌+◌, ◌≤◌, ◌^◌, length, IfOk, IfErr};
-ghost use Rattle.cgl_text.specs.Text.{lines_of};
-ghost use Rattle.cgl_where.specs.PointFile.{is_over, most_bytes, point_of, Values, Fault};
+ghost use Rattle.cgl_where.specs.PointFile.{point_of, Values, Fault};
 
 use crate::carried::Carried;
+use crate::columns::Columns;
 use crate::records::record_of;
 use cgl_model::{Model, Point};
-use cgl_text::lines;
+use cgl_text::{Lines, is_over};
 use std::alloc::Global;
 use thiserror::Error;
 
-/// Why a text is no point file: its first fault, by its line from 1 and its kind. Or want of memory.
+/// Why a text gives no point.
 #[derive(Clone, Copy, Debug, PartialEq, Eq, Error)]
 pub enum PointError {
+    /// The text is no point file for the model: its first bad line, counted from 1, and the kind of
+    /// that line's first fault. The kind is 12 (the byte 2^30 + 1 stands in the line), 11 (a line
+    /// over 4,096 bytes), 3 (not two fields), 6 (an unknown column), 14 (a column named before), 4
+    /// (a value that is not of its form or out of its limits) or 13 (from this line on the values'
+    /// common denominator is above 2^62, or a numerator over it reaches 2^100).
     #[error("line {line} kind {kind}")]
     Fault { line: u64, kind: u8 },
+    /// Memory was refused.
     #[error("out of memory")]
     Memory,
 }
 
-/// How many bytes a file may have.
-const MOST_BYTES: usize = 1_073_741_824;
-
-/// Whether the byte past the limit stands in line n of the text, which has so many lines.
-fn is_over(bytes: &[u8], lines: usize, n: u64) -> bool
-    requires within { length bytes.now ≤ 2 ^ 30 + 1 }
-    requires lines { lines ≡ length (lines_of bytes.now) }
-    ensures { result ≡ is_over most_bytes bytes.now n }
-{
-    bytes.len() > MOST_BYTES && lines as u64 == n
-}
-
-/// The point that the first 2^30 + 1 bytes of a file mean for the model, and so the whole file.
-pub fn point_of(alloc: Global, bytes: &[u8], model: &Model) -> Result<Point, PointError>
+/// The point that a file means for a model, whose columns are at hand.
+fn point_for(alloc: Global, bytes: &[u8], columns: &Columns) -> Result<Point, PointError>
     requires { length bytes.now ≤ 2 ^ 30 + 1 }
-    ensures point { IfOk result (λ x. point_of bytes.now model.now ≡ Values x) }
-    ensures sized { IfOk result (λ x. length x.p ≡ length model.now.cols) }
+    ensures point { IfOk result (λ x. point_of bytes.now columns.now ≡ Values x) }
+    ensures sized { IfOk result (λ x. length x.p ≡ length columns.now.cols) }
     ensures fault { IfErr result (λ e. (e ≡ PointError.Memory)
-        ⊎ ((line : ℕ) × (kind : ℕ) × (e ≡ PointError.Fault line kind) × (point_of bytes.now model.now ≡ Fault line kind))) }
+        ⊎ ((line : ℕ) × (kind : ℕ) × (e ≡ PointError.Fault line kind) × (point_of bytes.now columns.now ≡ Fault line kind))) }
 {
-    let Ok(found) = lines(alloc, bytes) else {
+    let Ok(lines) = Lines::of(alloc, bytes) else {
         return Err(PointError::Memory);
     };
-    let texts = found.as_slice();
-    let Ok(mut carried) = Carried::new(alloc, model) else {
+    let texts = lines.as_slice();
+    let Ok(mut carried) = Carried::new(alloc, columns) else {
         return Err(PointError::Memory);
     };
     'lines: for (i, line) in texts.iter().enumerate() {
@@ -50,16 +44,39 @@ pub fn point_of(alloc: Global, bytes: &[u8], model: &Model) -> Result<Point, Poi
         let Ok(r) = record_of(alloc, n, line) else {
             return Err(PointError::Memory);
         };
-        let over = is_over(bytes, texts.len(), n);
-        let Ok(fault) = carried.take_line(model, &r, over) else {
+        let over = is_over(bytes, lines.len(), n);
+        let Ok(fault) = carried.take_line(columns, &r, over) else {
             return Err(PointError::Memory);
         };
         if let Some(kind) = fault {
             return Err(PointError::Fault { line: n, kind });
         }
     }
-    match carried.point(alloc, model) {
+    match carried.point(alloc, columns) {
         Ok(point) => Ok(point),
         Err(_) => Err(PointError::Memory),
     }
+}
+
+/// The point that a file means for the model. `bytes` are the whole file, or its first 2^30 + 1
+/// bytes, which tell as much: a point file has at most 2^30.
+///
+/// The point has a number for each column of the model, in their order, over one denominator, the
+/// least that all of them have. A column that no line names is at 0.
+///
+/// # Errors
+///
+/// `Fault` exactly where the text is no point file for the model, at its first fault. `Memory`
+/// where memory was refused, whatever the text.
+pub fn point_of(alloc: Global, bytes: &[u8], model: &Model) -> Result<Point, PointError>
+    requires { length bytes.now ≤ 2 ^ 30 + 1 }
+    ensures point { IfOk result (λ x. point_of bytes.now model.now ≡ Values x) }
+    ensures sized { IfOk result (λ x. length x.p ≡ length model.now.cols) }
+    ensures fault { IfErr result (λ e. (e ≡ PointError.Memory)
+        ⊎ ((line : ℕ) × (kind : ℕ) × (e ≡ PointError.Fault line kind) × (point_of bytes.now model.now ≡ Fault line kind))) }
+{
+    let Ok(columns) = Columns::of(alloc, model) else {
+        return Err(PointError::Memory);
+    };
+    point_for(alloc, bytes, &columns)
 }

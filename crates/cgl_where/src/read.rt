@@ -8,17 +8,17 @@ ghost use Rattle.cgl_outside.specs.Means.{Means, MeansFault};
 use crate::{PointError, point_of};
 use cgl_model::{Model, Point};
 use cgl_outside::{FetchError, ReadError, Shelf, read_front};
+use cgl_text::MOST_BYTES;
 use std::alloc::Global;
 
-/// One byte more than a file may have.
-const FRONT: usize = 1_073_741_825;
-
-/// The point that a file means for the model.
+/// The point that the file of this name on the shelf means for the model. The file is read from its
+/// start, up to 2^30 + 1 bytes of it. The shelf's files stay as they were.
 ///
 /// # Errors
 ///
-/// `Fault` where the file has a fault, at its first one, however long the file is.
-/// `ReadFault` where a read failed.
+/// `Fault` where the file is no point file for the model, at its first bad line and with the kind of
+/// [`PointError`], however long the file is. `ReadFault` where a read failed or there is no such
+/// file. `Memory` where memory was refused.
 pub fn read_point<S: Shelf>(
     alloc: Global,
     shelf: &mut S,
@@ -36,7 +36,8 @@ pub fn read_point<S: Shelf>(
     ensures held { S.held shelf.new ≡ S.held shelf.old }
     ensures writes { S.failed_writes shelf.new ≡ S.failed_writes shelf.old }
 {
-    let bytes = match read_front(alloc, shelf, name, FRONT) {
+    // the byte past the limit tells that the file is too large, and what follows it counts for nothing
+    let bytes = match read_front(alloc, shelf, name, MOST_BYTES + 1) {
         Ok(bytes) => bytes,
         Err(FetchError::ReadFault) => return Err(ReadError::ReadFault),
         Err(FetchError::Memory) => return Err(ReadError::Memory),

@@ -1,9 +1,8 @@
-use Rattle.std.proofs.Common.{◌≡◌, refl, sym, ap, ap₂, ◌∙◌, arith}
+use Rattle.std.proofs.Common.{◌≡◌, refl, sym, ap₂, ◌∙◌, arith}
 use Rattle.std.proofs.lemmas.Grind.{common_steps}
 use Rattle.cgl_mps.specs.declared.record.Section.TheVariants.{Start}
 use Rattle.cgl_mps.specs.Decode.{decode, deck_limits, Deck}
 use Rattle.cgl_mps.specs.Reading.{read_from}
-use Rattle.cgl_mps.specs.Seen.{words}
 use Rattle.cgl_mps.proofs.CarriedLaws.{follows}
 use Rattle.cgl_mps.proofs.ReadingLaws.{reads_alike}
 use Rattle.cgl_mps.proofs.ValidLaws.{decks_valid}
@@ -16,7 +15,7 @@ loop-line-init c =
       number = refl;
       reading =
           reads_alike deck_limits bytes
-          ∙ ap₂ (λ before lines. read_from deck_limits bytes 1 Start before lines) (sym c.new-before.ensures) (sym (ap words c.deref-line-items.ensures.value ∙ c.in-Ok.ensures));
+          ∙ ap₂ (λ before lines. read_from deck_limits bytes 1 Start before lines) (sym c.new-before.ensures) (sym (c.as_slice-line-items.ensures ∙ c.in-Ok.ensures));
     }
 
 pub returns-then-ends-clause-valid : goal.returns-then-ends-clause-valid

@@ -3,4 +3,4 @@ use Rattle.cgl_where.specs.Carried.{carried_value}
 use Rattle.cgl_where.proofs.carried.column_values.Given as goal
 
 abbrev pub invariant-loop-c : goal.invariant-loop-c
-invariant-loop-c l = l.found.items ≡ map (λ c. carried_value l.model l.named c.name) (take l.c-index l.columns)
+invariant-loop-c l = l.found.items ≡ map (λ c. carried_value l.columns l.named c.name) (take l.c-index l.c-items)

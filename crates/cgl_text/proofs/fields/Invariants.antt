@@ -1,9 +1,0 @@
-use Rattle.std.proofs.Common.{◌≡◌, ◌++◌, map, length}
-use Rattle.cgl_text.specs.Text.{fields_of}
-use Rattle.cgl_text.proofs.fields.Given as goal
-
-abbrev pub invariant-fields : goal.invariant-fields
-invariant-fields l = map (λ field. field.now) l.found.items ++ fields_of l.rest ≡ fields_of l.fn.line
-
-abbrev pub decreases-fields : goal.decreases-fields
-decreases-fields l = length l.rest
