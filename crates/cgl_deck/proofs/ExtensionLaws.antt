@@ -44,6 +44,12 @@ extension_of m cuts n h =
     let parts = given (list_all (is_known m) cuts) (list_all is_decimal cuts) (is_within_sizes m cuts) (with_rows m cuts) n h in
     record { known = parts.0; decimal = parts.1; sizes = parts.2; is = parts.3 }
 
+-- where no cause of a refusal stands
+pub extension_stands : (m : Model) (cuts : List Ineq) → list_all (is_known m) cuts ≡ true → list_all is_decimal cuts ≡ true → is_within_sizes m cuts ≡ true
+    → extended m cuts ≡ Some (with_rows m cuts)
+unfolding extended
+extension_stands m cuts known decimal sizes = rw (known, decimal, sizes) refl
+
 pub rows_of_extension : (m n : Model) (cuts : List Ineq) → extended m cuts ≡ Some n → n.rows ≡ m.rows ++ map cut_row (zip (cut_names m (length cuts)) cuts)
 rows_of_extension m n cuts h = ap (λ (v : Model). v.rows) (sym (extension_of m cuts n h).is)
 

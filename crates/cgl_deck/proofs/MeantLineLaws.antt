@@ -61,9 +61,6 @@ StandIn section lines = AllByRecursion (StandsIn section) lines
 stands : (section : Section) (word : Word) (words : List Word) → StandsIn section (data_of section (word ∷ words))
 stands section word words = record { plain = refl; place = refl; worded = refl }
 
-one_stands : (section : Section) (word : Word) (words : List Word) → StandIn section (data_of section (word ∷ words) ∷ [])
-one_stands section word words = (stands section word words, tt)
-
 pub all_flat_map : {X Y : Type 0} (P : Y → Type 0) (f : X → List Y) → ((x : X) → AllByRecursion P (f x)) → (xs : List X) → AllByRecursion P (flat_map f xs)
 all_flat_map P f each [] = tt
 all_flat_map P f each (x ∷ xs) = all_append P (f x) (flat_map f xs) (each x) (all_flat_map P f each xs)

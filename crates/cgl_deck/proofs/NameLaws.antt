@@ -1,5 +1,5 @@
 -- Steps of the search for unused names.
-use Rattle.std.proofs.Common.{◌≡◌, List, ℕ, zero, suc, ◌+◌, ◌-◌, ◌<◌, ◌≤◌, [], ◌∷◌, ◌++◌, length, filter, take, map, ap, refl, sym, ◌∙◌, true, false, arith, inl, inr, append-nil, append_assoc, length-append, subst}
+use Rattle.std.proofs.Common.{◌≡◌, List, ℕ, suc, ◌+◌, ◌-◌, ◌<◌, ◌≤◌, [], ◌∷◌, ◌++◌, length, filter, take, map, ap, sym, ◌∙◌, true, false, arith, inl, inr, append-nil, append_assoc, length-append, subst}
 use Rattle.std.proofs.lemmas.Bool.{cases_Bool}
 use Rattle.cgl_num.specs.NumberText.{Word}
 use Rattle.cgl_model.specs.declared.mip.Model.{Model}
@@ -35,21 +35,6 @@ names_turn m n found all k tries lt before =
       | inl e ↦ rw e (unused_turn m n found all k tries (n - length found - 1) e (omega arith) before)
       | inr e ↦ rw e (used_turn m n found all k tries e before)
     ]
-
-take_none : (k : ℕ) → take {A = Word} k [] ≡ []
-take_none zero = refl
-take_none (suc k) = refl
-
-pub names_ended : (m : Model) (n k : ℕ) (found all : List Word) → IsFound m n k 0 found all → found ≡ all
-names_ended m n k found all before =
-    let h : found ++ take (n - length found) [] ≡ all = before.rest in
-    sym (append-nil found) ∙ ap (λ more. found ++ more) (sym (take_none (n - length found))) ∙ h
-
-pub names_full : (m : Model) (n k tries : ℕ) (found all : List Word) → length found ≡ n → IsFound m n k tries found all → found ≡ all
-names_full m n k tries found all full before =
-    let none : n - length found ≡ 0 = omega arith in
-    let h : found ++ [] ≡ all = rw none at before.rest in
-    sym (append-nil found) ∙ h
 
 pub names_start : (m : Model) (n : ℕ) (found : List Word) (tries : ℕ) → found ≡ [] → tries ≡ length m.rows + n → IsFound m n 1 tries found (cut_names m n)
 unfolding cut_names

@@ -1,5 +1,5 @@
 -- The canonical text of a model decodes to the model.
-use Rattle.std.proofs.Common.{◌≡◌, ℕ, ◌≤◌, ◌^◌, List, length, Option, Some, IsSome, ◌+◌, ap, sym, ◌∙◌, if◌then◌else◌}
+use Rattle.std.proofs.Common.{◌≡◌, ℕ, ◌≤◌, ◌^◌, List, length, IsSome, ◌+◌, ap, sym, ◌∙◌, if◌then◌else◌}
 use Rattle.cgl_num.proofs.ReadBackLaws.{bound-of-text, number-of-text}
 use Rattle.cgl_outside.specs.Shelf.{Held, file_of, with_file}
 use Rattle.cgl_outside.proofs.ShelfLaws.{file_of-with_file}
@@ -12,6 +12,7 @@ use Rattle.cgl_mps.specs.Models.{model_of}
 use Rattle.cgl_mps.specs.Records.{kept}
 use Rattle.cgl_deck.specs.DeckLines.{deck_lines, numbered}
 use Rattle.cgl_deck.specs.DeckText.{deck_text}
+use Rattle.cgl_deck.specs.StoredDeck.{HoldsDeck}
 use Rattle.cgl_deck.proofs.DeckLineLaws.{line_sizes}
 use Rattle.cgl_deck.proofs.FaultlessLaws.{ends, faultless}
 use Rattle.cgl_deck.proofs.MeantLaws.{meant}
@@ -32,12 +33,12 @@ one_model m n e = cc
 pub again : (m n : Model) → IsValid m → HasDecimals m → length (deck_text m) ≤ 2 ^ 30 → decode (deck_text m) ≡ Deck n → deck_text n ≡ deck_text m
 again m n valid decimals short e = ap deck_text (sym (one_model m n (sym (decodes m valid decimals short) ∙ e)))
 
-one_text : (a b : List ℕ) (o : Option (List ℕ)) → o ≡ Some a → o ≡ Some b → a ≡ b
-one_text a b o e f = cc
-
 -- a file that was written with the text
-pub stored : (held now : Held) (name written bytes : List ℕ) (m : Model) → IsValid m → HasDecimals m → written ≡ deck_text m → now ≡ with_file held name written
-    → IsSome held → length (deck_text m) ≤ 2 ^ 30 → file_of now name ≡ Some bytes → decode bytes ≡ Deck m
-stored held now name written bytes m valid decimals is stands told short there =
-    let same = one_text written bytes (file_of now name) (ap (λ h. file_of h name) stands ∙ file_of-with_file held name written told) there in
-    ap decode (sym same ∙ is) ∙ decodes m valid decimals short
+pub stored : (held now : Held) (name written : List ℕ) (m : Model) → IsValid m → HasDecimals m → written ≡ deck_text m
+    → now ≡ with_file held name written → IsSome held → HoldsDeck now name m
+stored held now name written m valid decimals is stands told = record {
+  bytes = written;
+  file = ap (λ h. file_of h name) stands ∙ file_of-with_file held name written told;
+  text = is;
+  decodes = λ short. ap decode is ∙ decodes m valid decimals (rw is at short);
+}

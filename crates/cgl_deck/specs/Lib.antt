@@ -3,3 +3,4 @@ pub mod Extended
 pub mod DeckText
 pub mod DeckLines
 pub mod DeckLength
+pub mod StoredDeck

@@ -15,16 +15,19 @@ const MOST_ROWS: usize = 1 << 20;
 
 const MOST_ENTRIES: usize = 1 << 22;
 
-/// Why a model has no extension by cuts: the first cut with an unknown column, the first with a number out of
-/// the limits, too many rows or entries, or want of memory.
+/// Why there is no model with these cuts as rows. Of several causes the one that stands first here is told.
 #[derive(Clone, Copy, Debug, PartialEq, Eq, Error)]
 pub enum ExtendError {
+    /// The first cut, counted from 0, that names a column beyond the model.
     #[error("cut {cut} names an unknown column")]
     Unknown { cut: u32 },
+    /// The first cut, counted from 0, with an integer that is no decimal within the limits.
     #[error("cut {cut} has a number out of the limits")]
     NotDec { cut: u32 },
+    /// More than 2^20 rows or 2^22 entries.
     #[error("too many rows or entries")]
     TooMany,
+    /// Want of memory.
     #[error("out of memory")]
     Memory,
 }
@@ -295,7 +298,16 @@ fn extend(alloc: Global, model: &Model, cuts: &[Ineq]) -> Result<Model, Memory>
     })
 }
 
-/// The model with each cut as a G row behind its rows, named by the first of CUT1, CUT2, .. that are no row's name.
+/// The model with a G row behind its rows for each cut, in the order of the cuts. The rows have the names that
+/// `cut_names` gives, the right sides of the cuts and no range; the coefficients stand behind the columns' entries.
+/// The cuts are fewer than 2^32.
+///
+/// # Errors
+///
+/// `Unknown` exactly where a cut names a column beyond the model: the first such cut, counted from 0.
+/// `NotDec` exactly where no cut does, but an integer of a cut is no decimal within the limits: the first such cut.
+/// `TooMany` exactly where neither stands, but there would be more than 2^20 rows or 2^22 entries.
+/// `Memory` only where none of these stands: they are found before any memory is taken.
 pub fn with_cuts(alloc: Global, model: &Model, cuts: &[Ineq]) -> Result<Model, ExtendError>
     requires { length cuts.now < 2 ^ 32 }
     ensures ok { IfOk result (λ n. extended model.now cuts.now ≡ Some n) }
@@ -304,6 +316,8 @@ pub fn with_cuts(alloc: Global, model: &Model, cuts: &[Ineq]) -> Result<Model, E
     ensures known { (k : ℕ) → IsErrOf result (ExtendError.NotDec k) → IsTrue (list_all (is_known model.now) cuts.now) }
     ensures not_decimal { (k : ℕ) → IsErrOf result (ExtendError.NotDec k) → position (λ c. not (is_decimal c)) cuts.now ≡ Some k }
     ensures too_many { IsErrOf result ExtendError.TooMany → IsTooMany model.now cuts.now }
+    // so each cause that stands is answered by its own error
+    ensures memory { IsErrOf result ExtendError.Memory → IsSome (extended model.now cuts.now) }
 {
     if let Some(cut) = first_unknown(model, cuts) {
         return Err(ExtendError::Unknown { cut: cut as u32 });

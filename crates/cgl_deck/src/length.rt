@@ -206,7 +206,7 @@ fn bounds_len(columns: &[Column]) -> u64
     total
 }
 
-/// The length of the canonical text of a model, or the greatest u64 where the text is longer.
+/// The length in bytes of the canonical text of a model, or the greatest u64 where the text is longer. Takes no memory.
 pub fn deck_len(model: &Model) -> u64
     ensures { result ≡ most (length (deck_text model.now)) }
 {

@@ -1,7 +1,6 @@
 //! The canonical text of a model, and models with cuts as further rows.
 #![tactic(auto)]
 
-mod decimals;
 mod extend;
 mod laws;
 mod length;

@@ -1,4 +1,4 @@
-ghost use Rattle.std.specs.Prelude.{◌≡◌, [], ◌∷◌, ◌++◌, filter, map, IfOk, OnOk};
+ghost use Rattle.std.specs.Prelude.{◌≡◌, ◌<◌, [], ◌∷◌, ◌++◌, filter, map, IfOk, OnErr, OnOk};
 ghost use Rattle.cgl_text.specs.Text.{is_one_of};
 ghost use Rattle.cgl_deck.specs.CutNames.{cut_name, cut_names, is_unused};
 
@@ -50,9 +50,14 @@ fn add_unused(names: &mut Seq<Name>, model: &Model, name: Name) -> Result<(), Me
     names.push(name)
 }
 
-/// The first n of CUT1, CUT2, .. that are no row's name.
+/// The first n of CUT1, CUT2, .. that are no row's name, in rising order.
+///
+/// # Errors
+///
+/// `Memory` for want of memory, and never where n is 0.
 pub fn cut_names(alloc: Global, model: &Model, n: u32) -> Result<Seq<Name>, Memory>
-    ensures { IfOk result (λ names. names ≡ cut_names model.now n) }
+    ensures names { IfOk result (λ names. names ≡ cut_names model.now n) }
+    ensures memory { OnErr result (0 < n) }
 {
     let mut names = Seq::new(alloc);
     let last = model.rows.as_slice().len() as u64 + n as u64;

@@ -1,24 +1,26 @@
 //! The canonical text of a model as a file.
 
-ghost use Rattle.std.specs.Prelude.{◌≡◌, ◌⊎◌, ◌≤◌, ◌^◌, ℕ, List, IsErrOf, IsSome, OnOk, Some, length, take};
+ghost use Rattle.std.specs.Prelude.{◌≡◌, ◌≤◌, IsErrOf, IsSome, OnOk};
 ghost use Rattle.cgl_model.specs.Valid.{IsValid};
-ghost use Rattle.cgl_mps.specs.Decode.{Deck, decode};
-ghost use Rattle.cgl_outside.specs.Shelf.{Rose, file_of, with_file};
+ghost use Rattle.cgl_outside.specs.Shelf.{Rose, with_file};
 ghost use Rattle.cgl_deck.specs.DeckText.{deck_text};
+ghost use Rattle.cgl_deck.specs.StoredDeck.{HoldsDeck, HoldsPart};
 
-use crate::decimals::has_decimals;
 use crate::write::deck_text;
 use cgl_model::Model;
 use cgl_outside::{Shelf, WriteError, write_whole};
 use std::alloc::Global;
 
-/// Creates the file and appends the canonical text of the model, which decodes to the model where it has at most 2^30
-/// bytes.
+/// Creates the file of this name and appends the canonical text of the model, whatever its length.
+///
+/// After `Ok` the file holds this text, and the shelf holds all other files as before. Text of at most 2^30 bytes
+/// decodes to the model: a shelf that tells its bytes then holds a file whose bytes decode to the model.
 ///
 /// # Errors
 ///
-/// `WriteFault` where a create or an append failed: then the file is as it was, or has a first part of the text.
-/// `Memory` before the file is created.
+/// `WriteFault` only where a create or an append failed, so that the shelf's count of failed writes rose: then the file
+/// is as before or holds a first part of the text, down to none of it, and all other files are as before.
+/// `Memory` for want of memory, before the file is created: then all files and both counts are as before.
 pub fn write_deck<S: Shelf>(
     alloc: Global,
     model: &Model,
@@ -27,17 +29,15 @@ pub fn write_deck<S: Shelf>(
 ) -> Result<(), WriteError>
     requires { IsValid model.now }
     ensures text { OnOk result (S.held shelf.new ≡ with_file (S.held shelf.old) name.now (deck_text model.now)) }
-    ensures decodes { OnOk result (IsSome (S.held shelf.old) → length (deck_text model.now) ≤ 2 ^ 30
-        → (bytes : List ℕ) → file_of (S.held shelf.new) name.now ≡ Some bytes → decode bytes ≡ Deck model.now) }
-    ensures stands { IsErrOf result WriteError.WriteFault → (S.held shelf.new ≡ S.held shelf.old)
-        ⊎ ((kept : ℕ) × (S.held shelf.new ≡ with_file (S.held shelf.old) name.now (take kept (deck_text model.now)))) }
+    ensures decodes { OnOk result (IsSome (S.held shelf.old) → HoldsDeck (S.held shelf.new) name.now model.now) }
+    ensures stands { IsErrOf result WriteError.WriteFault → HoldsPart (S.held shelf.old) (S.held shelf.new) name.now model.now }
     ensures fault { IsErrOf result WriteError.WriteFault → Rose (S.failed_writes shelf.old) (S.failed_writes shelf.new) }
     ensures memory { IsErrOf result WriteError.Memory → (S.held shelf.new ≡ S.held shelf.old) × (S.failed_writes shelf.new ≡ S.failed_writes shelf.old) }
     ensures writes { OnOk result (S.failed_writes shelf.new ≡ S.failed_writes shelf.old) }
     ensures later { S.failed_writes shelf.old ≤ S.failed_writes shelf.new }
     ensures reads { S.failed_reads shelf.new ≡ S.failed_reads shelf.old }
 {
-    has_decimals(model);
+    model.has_decimals();
     let Ok(text) = deck_text(alloc, model) else {
         return Err(WriteError::Memory);
     };

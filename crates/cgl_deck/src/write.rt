@@ -291,7 +291,12 @@ fn add_bounds(text: &mut Vec<u8>, columns: &[Column]) -> Result<(), Memory>
 
 // ---- all
 
-/// The canonical text of a model. A row number that no row has is written as an empty name.
+/// The canonical text of a model, as bytes. Its length is that of `deck_len`, and has no limit here.
+/// An entry in a row that the model does not have is written with an empty name; a valid model has none.
+///
+/// # Errors
+///
+/// `Memory` for want of memory.
 #[tactic(auto, unfolding(crate::specs::DeckText::deck_text))]
 pub fn deck_text(alloc: Global, model: &Model) -> Result<Vec<u8>, Memory>
     ensures { IfOk result (λ text. text.items ≡ deck_text model.now) }

@@ -1,5 +1,6 @@
-use Rattle.std.proofs.Common.{◌≡◌, true, rules}
-use Rattle.cgl_deck.specs.Extended.{extended, is_known, is_decimal, is_within_sizes}
+use Rattle.std.proofs.Common.{◌≡◌, true, Some, is_some, ap, ◌∙◌, sym, rules}
+use Rattle.cgl_deck.specs.Extended.{is_known, is_decimal, is_within_sizes}
+use Rattle.cgl_deck.proofs.ExtensionLaws.{extension_stands}
 use Rattle.cgl_deck.proofs.ListLaws.{none_fails}
 use Rattle.cgl_deck.proofs.extend.with_cuts.Goals as goal
 
@@ -19,10 +20,16 @@ extend-requires-clause-known c = none_fails (is_known c.args.model.now) c.args.c
 pub extend-requires-clause-decimal : goal.extend-requires-clause-decimal
 extend-requires-clause-decimal c = none_fails is_decimal c.args.cuts.now c.first_not_decimal.result c.first_not_decimal.ensures c.in_default-first_not_decimal.is
 
+pub returns-in_default-extend-clause-memory : goal.returns-in_default-extend-clause-memory
+returns-in_default-extend-clause-memory c h =
+    let known = none_fails (is_known c.args.model.now) c.args.cuts.now c.first_unknown.result c.first_unknown.ensures c.in_default.is in
+    let decimal = none_fails is_decimal c.args.cuts.now c.first_not_decimal.result c.first_not_decimal.ensures c.in_default-first_not_decimal.is in
+    let fits : is_within_sizes c.args.model.now c.args.cuts.now ≡ true = search rules in
+    ap is_some (extension_stands c.args.model.now c.args.cuts.now known decimal fits)
+
 pub returns-clause-ok : goal.returns-clause-ok
-unfolding extended
 returns-clause-ok c =
     let known = none_fails (is_known c.args.model.now) c.args.cuts.now c.first_unknown.result c.first_unknown.ensures c.in_default.is in
     let decimal = none_fails is_decimal c.args.cuts.now c.first_not_decimal.result c.first_not_decimal.ensures c.in_default-first_not_decimal.is in
     let fits : is_within_sizes c.args.model.now c.args.cuts.now ≡ true = search rules in
-    rw (known, decimal, fits, c.in-Ok.ensures.model)
+    extension_stands c.args.model.now c.args.cuts.now known decimal fits ∙ ap Some (sym c.in-Ok.ensures.model)
