@@ -3,27 +3,47 @@
 
 use cgl_app::run;
 use cgl_outside::{DirShelf, StdSink};
-use std::env;
+use std::io::ErrorKind;
 use std::process::ExitCode;
-
-/// The system does not give the words.
-const NO_WORDS: u8 = 9;
+use std::{env, io};
 
 /// Memory for the words is refused.
 const NO_MEMORY: u8 = 7;
 
-fn main(rt: HostRuntime) -> ExitCode {
-    let Ok(given) = env::args(&rt) else {
-        return ExitCode::from(NO_WORDS);
-    };
+/// The system does not give the words.
+const NO_WORDS: u8 = 9;
+
+/// The words behind the program's name. Words that are not UTF-8 are of no command: none are given for them, and the
+/// library refuses those.
+fn given_words(rt: &HostRuntime) -> io::Result<Vec<String>> {
     let mut words = Vec::new(rt.alloc());
+    let given = match env::args(rt) {
+        Ok(given) => given,
+        Err(error) if error.kind() == ErrorKind::InvalidData => return Ok(words),
+        Err(error) => return Err(error),
+    };
     for word in given.skip(1) {
         let Ok(()) = words.push(word) else {
-            return ExitCode::from(NO_MEMORY);
+            return Err(io::Error::from(ErrorKind::OutOfMemory));
         };
     }
+    Ok(words)
+}
+
+/// The status of the program that has no words.
+fn status_without_words(error: io::Error) -> u8 {
+    match error.kind() {
+        ErrorKind::OutOfMemory => NO_MEMORY,
+        _ => NO_WORDS,
+    }
+}
+
+fn main(rt: HostRuntime) -> ExitCode {
     let mut shelf = DirShelf::new(&rt);
     let mut out = StdSink::output(&rt);
     let mut err = StdSink::error(&rt);
-    ExitCode::from(run(rt.alloc(), &words, &mut shelf, &mut out, &mut err))
+    match given_words(&rt) {
+        Ok(words) => ExitCode::from(run(rt.alloc(), &words, &mut shelf, &mut out, &mut err)),
+        Err(error) => ExitCode::from(status_without_words(error)),
+    }
 }

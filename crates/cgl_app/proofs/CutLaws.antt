@@ -22,6 +22,7 @@ use Rattle.cgl_app.specs.Lines.{status_of}
 use Rattle.cgl_app.specs.Words.{CutWords}
 use Rattle.cgl_app.specs.Steps.{IsRead}
 use Rattle.cgl_app.specs.CutAnswers.{AreRead, Holds, InForm, IsToWrite, AtOut, AtProof, AtOutput, ExceedsSizes, IsTooLarge, with_out, with_both, CutAnswer, CutCompletes}
+use Rattle.cgl_app.proofs.CountLaws.{only_put_failed, only_write_failed, unread_untouched}
 use Rattle.cgl_app.proofs.CutMeaningLawsExtension.{refused_by_size}
 use Rattle.cgl_app.proofs.DoneLaws.{done}
 
@@ -156,23 +157,23 @@ at_end c b a end stop e answer = let P : Option Refusal → Type 0 = λ x. CutAn
 
 pub cut_answer : (c : CutWords) (b a : View) (end : Option Refusal) → c.out ≢ c.proof → CutCame c b a end → CutAnswer c b a end
 cut_answer c b a end apart (OutOfMemory e same) = at_end c b a end _ e same
-cut_answer c b a end apart (ModelUnread e why) = at_end c b a end _ e (record { cause = why.cause; rest = why.rest; order = inl refl })
+cut_answer c b a end apart (ModelUnread e why) = at_end c b a end _ e (record { cause = why.cause; excused = unread_untouched _ b a why; rest = why.rest; order = inl refl })
 cut_answer c b a end apart (ModelWrong text fault shows is e same) = at_end c b a end _ e
     (record { rest = same; first = inl (refl, record { text = text; shows = shows; fault = is }) })
 cut_answer c b a end apart (PointUnread m gm e why) = at_end c b a end _ e
-    (record { cause = why.cause; rest = why.rest; order = inr (refl, (m, gm)) })
+    (record { cause = why.cause; excused = unread_untouched _ b a why; rest = why.rest; order = inr (refl, (m, gm)) })
 cut_answer c b a end apart (PointWrong m gm text fault shows is e same) = at_end c b a end _ e
     (record { rest = same; first = inr (refl, (m, gm, record { text = text; shows = shows; fault = is })) })
 cut_answer c b a end apart (Oversize m x gm gp large e same) = at_end c b a end _ e
     (record { rest = same; m = m; x = x; read = are_read c b m x gm gp; cause = large; sizes = exceeded m x (results_are_models gm.text m gm.is).1 })
 cut_answer c b a end apart (OutUnwritten m n x gm gp is small e why) = at_end c b a end _ e
-    (AtOut m n x (to_write c b m n x gm gp is small) why.cause why.file (ap (λ v. v.told) why.rest))
+    (AtOut m n x (to_write c b m n x gm gp is small) (only_write_failed b.held _ _ b a why) why.file (ap (λ v. v.told) why.rest))
 cut_answer c b a end apart (ProofUnwritten m n x gm gp is small e why) = at_end c b a end _ e
-    (AtProof m n x (to_write c b m n x gm gp is small) why.cause why.file (ap (λ v. v.told) why.rest))
+    (AtProof m n x (to_write c b m n x gm gp is small) (only_write_failed _ _ _ b a why) why.file (ap (λ v. v.told) why.rest))
 cut_answer c b a end apart (ReportUnput m n x gm gp is small e why) = at_end c b a end _ e
-    (AtOutput m n x (to_write c b m n x gm gp is small) why.cause (ap (λ v. v.held) why.rest) why.kept why.got)
+    (AtOutput m n x (to_write c b m n x gm gp is small) (only_put_failed _ _ b a why) (ap (λ v. v.held) why.rest) why.kept why.got)
 cut_answer c b a end apart (AllDone m n x gm gp is small e same) = at_end c b a end _ e
-    (done c b a m n x apart (to_write c b m n x gm gp is small) (ap (λ v. v.held) same) (ap (λ v. v.told) same))
+    (done c b a m n x apart (to_write c b m n x gm gp is small) same)
 
 one_extension : (n k : Mip) (o : Option Mip) → o ≡ Some n → o ≡ Some k → n ≡ k
 one_extension n k o e f = cc

@@ -14,6 +14,7 @@ use Rattle.cgl_model.specs.IntegerForm.{forms_of}
 use Rattle.cgl_model.specs.Point.{Point}
 use Rattle.cgl_model.specs.Rising.{IsRising}
 use Rattle.cgl_model.proofs.ColumnLaws.{sides_below}
+use Rattle.cgl_model.proofs.RisingLaws.{sides_rising}
 use Rattle.cgl_model.proofs.SideLaws.{feasible_sides}
 use Rattle.cgl_derive.specs.declared.answer.Answer.{Answer}
 use Rattle.cgl_derive.specs.declared.answer.Answer.TheVariants.{Nothing, Cut, Wide}
@@ -30,7 +31,6 @@ use Rattle.cgl_app.specs.CutAnswers.{IsRightCut}
 use Rattle.cgl_app.specs.CutMeaning.{AreRight, MeetsListed}
 use Rattle.cgl_app.specs.CutOf.{answers, listed_cuts, round_answers_from}
 use Rattle.cgl_app.proofs.CutMeaningLawsPlaces.{sides_found}
-use Rattle.cgl_app.proofs.CutMeaningLawsRising.{sides_rising}
 
 -- ---- what all cuts among the answers have, the listed ones have
 

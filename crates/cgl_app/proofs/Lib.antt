@@ -4,11 +4,10 @@ pub mod WordLaws
 pub mod StepLaws
 pub mod TextLaws
 pub mod AnswerLaws
-pub mod ExtensionLaws
 pub mod CutStepLaws
+pub mod CountLaws
 pub mod DoneLaws
 pub mod CutLaws
-pub mod CutMeaningLawsRising
 pub mod CutMeaningLawsPlaces
 pub mod CutMeaningLaws
 pub mod CutMeaningLawsExtension

@@ -18,6 +18,7 @@ use Rattle.cgl_app.specs.Report.{counts_text}
 use Rattle.cgl_app.specs.Steps.{IsRead}
 use Rattle.cgl_app.specs.Words.{ShowWords}
 use Rattle.cgl_app.specs.ShowAnswers.{ShowAtOut, ShowAtOutput, ShowAnswer, ShowCompletes}
+use Rattle.cgl_app.proofs.CountLaws.{none_failed, only_put_failed, only_write_failed, unread_untouched}
 use Rattle.cgl_app.proofs.CutLaws.{ReadCame, Unread, Short, Wrong, Right, read_came, no_fault, no_lack, same_meaning}
 use Rattle.cgl_app.proofs.DecodeLaws.{read_again}
 
@@ -63,18 +64,19 @@ at_end s b a end stop e answer = let P : Option Refusal → Type 0 = λ x. ShowA
 
 pub show_answer : (s : ShowWords) (b a : View) (end : Option Refusal) → ShowCame s b a end → ShowAnswer s b a end
 show_answer s b a end (OutOfMemory e same) = at_end s b a end _ e same
-show_answer s b a end (ModelUnread e why) = at_end s b a end _ e (record { file_is = refl; cause = why.cause; rest = why.rest })
+show_answer s b a end (ModelUnread e why) = at_end s b a end _ e (record { file_is = refl; cause = why.cause; excused = unread_untouched _ b a why; rest = why.rest })
 show_answer s b a end (ModelWrong text fault shows is e same) = at_end s b a end _ e
     (record { rest = same; file_is = refl; faulty = record { text = text; shows = shows; fault = is } })
 show_answer s b a end (Oversize m gm large e same) = at_end s b a end _ e (record { rest = same; m = m; read = gm; cause = large })
 show_answer s b a end (OutUnwritten m gm small e why) = at_end s b a end _ e
-    (ShowAtOut m (record { read = gm; small = small }) why.cause why.file (ap (λ v. v.told) why.rest))
+    (ShowAtOut m (record { read = gm; small = small }) (only_write_failed b.held _ _ b a why) why.file (ap (λ v. v.told) why.rest))
 show_answer s b a end (CountsUnput m gm small e why) = at_end s b a end _ e
-    (ShowAtOutput m (record { read = gm; small = small }) why.cause (ap (λ v. v.held) why.rest) why.kept why.got)
+    (ShowAtOutput m (record { read = gm; small = small }) (only_put_failed _ _ b a why) (ap (λ v. v.held) why.rest) why.kept why.got)
 show_answer s b a end (AllDone m gm small e same) = at_end s b a end _ e
     (record {
       m = m;
       written = record { read = gm; small = small };
+      calm = none_failed _ _ b a same;
       out_is = λ told. ap (λ v. file_of v.held s.out) same ∙ file_of-with_file b.held s.out (deck_text m) told;
       decodes = read_again gm.text m gm.is small;
       files = ap (λ v. v.held) same;

@@ -7,7 +7,7 @@ use Rattle.cgl_app.specs.declared.refusal.File.{File}
 use Rattle.cgl_app.specs.declared.refusal.Refusal.{Refusal}
 use Rattle.cgl_app.specs.declared.refusal.Refusal.TheVariants.{Memory}
 use Rattle.cgl_app.specs.View.{View, view}
-use Rattle.cgl_app.specs.Script.{Script, Writes, Puts, Works, Refuses, Came, Ends}
+use Rattle.cgl_app.specs.Script.{Script, Writes, Puts, Works, Came, Ends}
 use Rattle.cgl_app.specs.Steps.{IsRead, ReadRefused, WriteRefused, PutRefused}
 use Rattle.cgl_app.specs.Commands.{by_meaning, reads_file}
 
@@ -25,7 +25,7 @@ pub read_refused : {A : Type 0} (file : File) (name : List ℕ) (meaning : List 
     → Came (reads_file file name meaning next) (view h r w t f) (view h2 r2 w2 t f) (Some refusal)
 unfolding Came reads_file
 read_refused file name meaning next h h2 r r2 w w2 t f refusal eh ew (inl why) =
-    inl (ap (λ x. Some x) why.0, record { cause = why.1; rest = same_view _ _ _ _ _ _ _ _ _ _ eh refl ew refl refl })
+    inl (ap (λ x. Some x) why.0, record { cause = why.1; excused = why.2; rest = same_view _ _ _ _ _ _ _ _ _ _ eh refl ew refl refl })
 read_refused file name meaning next h h2 r r2 w w2 t f refusal eh ew (inr (inl why)) =
     inr (inl (ap (λ x. Some x) why.0, same_view _ _ _ _ _ _ _ _ _ _ eh why.1 ew refl refl))
 read_refused {A} file name meaning next h h2 r r2 w w2 t f refusal eh ew (inr (inr why)) =
@@ -86,8 +86,3 @@ pub put_came : {T : Type 0} (result : Result T Refusal) (bytes text : List ℕ) 
     → Came (Puts text Ends) (view h r w t f) (view h r w t2 f2) (result_err result)
 put_came (Ok x) bytes text h r w t t2 f f2 e et ef why = put_last bytes text h r w t t2 f f2 e et ef
 put_came (Err refusal) bytes text h r w t t2 f f2 e et ef why = put_refused bytes text Ends h r w t t2 f f2 refusal e why
-
--- work that is refused at once
-pub refused_work : (refusal : Refusal) (b a : View) (end : Option Refusal) → end ≡ Some refusal → a ≡ b → Came (Works (Refuses refusal)) b a end
-unfolding Came
-refused_work refusal b a end e same = inr (e, same)

@@ -59,6 +59,24 @@ pub record Calm (before after : View) : Type 0 where
   pub writes : Rose before.writes after.writes → ⊥
   pub faults : Rose before.faults after.faults → ⊥
 
+-- no failed call was counted
+pub record NoneFailed (before after : View) : Type 0 where
+  pub reads : after.reads ≡ before.reads
+  pub writes : after.writes ≡ before.writes
+  pub faults : after.faults ≡ before.faults
+
+-- a failed create or append was counted, and no other call
+pub record OnlyWriteFailed (before after : View) : Type 0 where
+  pub writes : Rose before.writes after.writes
+  pub reads : after.reads ≡ before.reads
+  pub faults : after.faults ≡ before.faults
+
+-- a failed put was counted, and no other call
+pub record OnlyPutFailed (before after : View) : Type 0 where
+  pub faults : Rose before.faults after.faults
+  pub reads : after.reads ≡ before.reads
+  pub writes : after.writes ≡ before.writes
+
 -- what each listed cut keeps: the fraction is by how much the point violates it, and is above 0; its derivation is right
 pub record IsRightCut (m : Mip) (x : Numbers) (k : Kept) : Type 0 where
   pub violation_is : k.candidate.violation ≡ violation k.candidate.cut x
@@ -76,12 +94,13 @@ pub record IsToWrite (c : CutWords) (held : Held) (m n : Mip) (x : Numbers) : Ty
   pub extended_is : extension m x ≡ Some n
   pub small : is_too_large n m x ≡ false
 
--- status 0: OUT holds the deck with the listed cuts, PROOF their derivations, the output got the report, and all other files are as before
+-- status 0: no call failed, OUT holds the deck with the listed cuts, PROOF their derivations, the output got the report, and all other files are as before
 pub record Done (c : CutWords) (before after : View) : Type 0 where
   pub m : Mip
   pub n : Mip
   pub x : Numbers
   pub written : IsToWrite c before.held m n x
+  pub calm : NoneFailed before after
   pub out_is : IsSome before.held → file_of after.held c.out ≡ Some (deck_text n)
   pub decodes : decode (deck_text n) ≡ Deck n  -- so OUT decodes to the model with the listed cuts
   pub proof_is : IsSome before.held → file_of after.held c.proof ≡ Some (proofs_of m x)
@@ -90,19 +109,20 @@ pub record Done (c : CutWords) (before after : View) : Type 0 where
   pub cuts : AllByRecursion (IsRightCut m x) (listed_cuts m x)
   pub same_points : SamePoints m n
 
--- status 3, with the file that is named; nothing but the count of reads that failed has changed
+-- status 3, with the file that is named; nothing but the count of reads that failed has changed, nor that where there is no such file
 pub record ReadStop (c : CutWords) (before after : View) (file : File) : Type 0 where
   pub cause : Rose before.reads after.reads ⊎ Lacks before.held (name_of (CutCommand c) file)
+  pub excused : Lacks before.held (name_of (CutCommand c) file) → after ≡ before
   pub rest : after ≡ record before { reads = after.reads }
   pub order : (file ≡ Model) ⊎ ((file ≡ Point) × ((m : Mip) × IsRead before.held c.model deck_result m))
 
--- status 4, with the file that is named, or the output
+-- status 4, with the file that is named, or the output; no other call failed
 pub data WriteStop (c : CutWords) (before after : View) : File → Type 0 where
-  AtOut : (m n : Mip) (x : Numbers) → IsToWrite c before.held m n x → Rose before.writes after.writes
+  AtOut : (m n : Mip) (x : Numbers) → IsToWrite c before.held m n x → OnlyWriteFailed before after
       → PartWritten before.held after.held c.out (deck_text n) → after.told ≡ before.told → WriteStop c before after Out
-  AtProof : (m n : Mip) (x : Numbers) → IsToWrite c before.held m n x → Rose before.writes after.writes
+  AtProof : (m n : Mip) (x : Numbers) → IsToWrite c before.held m n x → OnlyWriteFailed before after
       → PartWritten (with_out c before.held n) after.held c.proof (proofs_of m x) → after.told ≡ before.told → WriteStop c before after Proof
-  AtOutput : (m n : Mip) (x : Numbers) → IsToWrite c before.held m n x → Rose before.faults after.faults
+  AtOutput : (m n : Mip) (x : Numbers) → IsToWrite c before.held m n x → OnlyPutFailed before after
       → after.held ≡ with_both c before.held n m x → (kept : ℕ) → after.told ≡ with_put before.told (take kept (report_of m x))
       → WriteStop c before after StandardOutput
 

@@ -16,9 +16,10 @@ pub data Script : Type 0 where
   Refuses : Refusal → Script
   Ends : Script
 
--- a read failed: its count rose, or the shelf tells that there is no such file; nothing else changed
+-- a read failed: its count rose, or the shelf tells that there is no such file, and then its count stays; nothing else changed
 pub record ReadFailed (name : List ℕ) (before after : View) : Type 0 where
   pub cause : Rose before.reads after.reads ⊎ Lacks before.held name
+  pub excused : Lacks before.held name → after.reads ≡ before.reads
   pub rest : after ≡ record before { reads = after.reads }
 
 -- a write failed: its count rose, and the file is as before or has a first part of its bytes; nothing else changed

@@ -15,33 +15,35 @@ use Rattle.cgl_app.specs.Report.{counts_text}
 use Rattle.cgl_app.specs.Steps.{IsRead}
 use Rattle.cgl_app.specs.View.{View}
 use Rattle.cgl_app.specs.Words.{ShowWords}
-use Rattle.cgl_app.specs.CutAnswers.{Holds, IsFaulty, PartWritten, Calm}
+use Rattle.cgl_app.specs.CutAnswers.{Holds, IsFaulty, PartWritten, Calm, NoneFailed, OnlyWriteFailed, OnlyPutFailed}
 
 -- the model that was read, whose text is to be written
 pub record IsToShow (s : ShowWords) (held : Held) (m : Mip) : Type 0 where
   pub read : IsRead held s.model deck_result m
   pub small : is_too_long (deck_text m) ≡ false
 
--- status 0: OUT holds the canonical text of the model, which decodes to it, the output got the counts, and all other files are as before
+-- status 0: no call failed, OUT holds the canonical text of the model, which decodes to it, the output got the counts, and all other files are as before
 pub record Shown (s : ShowWords) (before after : View) : Type 0 where
   pub m : Mip
   pub written : IsToShow s before.held m
+  pub calm : NoneFailed before after
   pub out_is : IsSome before.held → file_of after.held s.out ≡ Some (deck_text m)
   pub decodes : decode (deck_text m) ≡ Deck m
   pub files : after.held ≡ with_file before.held s.out (deck_text m)
   pub report : after.told ≡ with_put before.told (counts_text m)
 
--- status 3; nothing but the count of reads that failed has changed
+-- status 3; nothing but the count of reads that failed has changed, nor that where there is no such file
 pub record ShowReadStop (s : ShowWords) (before after : View) (file : File) : Type 0 where
   pub file_is : file ≡ Model
   pub cause : Rose before.reads after.reads ⊎ Lacks before.held s.model
+  pub excused : Lacks before.held s.model → after ≡ before
   pub rest : after ≡ record before { reads = after.reads }
 
--- status 4, with the file that is named, or the output
+-- status 4, with the file that is named, or the output; no other call failed
 pub data ShowWriteStop (s : ShowWords) (before after : View) : File → Type 0 where
-  ShowAtOut : (m : Mip) → IsToShow s before.held m → Rose before.writes after.writes
+  ShowAtOut : (m : Mip) → IsToShow s before.held m → OnlyWriteFailed before after
       → PartWritten before.held after.held s.out (deck_text m) → after.told ≡ before.told → ShowWriteStop s before after Out
-  ShowAtOutput : (m : Mip) → IsToShow s before.held m → Rose before.faults after.faults
+  ShowAtOutput : (m : Mip) → IsToShow s before.held m → OnlyPutFailed before after
       → after.held ≡ with_file before.held s.out (deck_text m) → (kept : ℕ) → after.told ≡ with_put before.told (take kept (counts_text m))
       → ShowWriteStop s before after StandardOutput
 

@@ -17,7 +17,7 @@ pub record IsRead {A : Type 0} (held : Held) (name : List ℕ) (meaning : List �
 -- the file could not be read, memory was refused, or the file's bytes have a fault
 abbrev pub ReadRefused : {A : Type 0} → Held → ℕ → ℕ → File → List ℕ → (List ℕ → Result A (ℕ × ℕ)) → Refusal → Type 0
 ReadRefused {A} held reads now file name meaning refusal =
-    ((refusal ≡ ReadFault file) × (Rose reads now ⊎ Lacks held name))
+    ((refusal ≡ ReadFault file) × (Rose reads now ⊎ Lacks held name) × (Lacks held name → now ≡ reads))
     ⊎ ((refusal ≡ Memory) × (now ≡ reads))
     ⊎ ((text : List ℕ) × (fault : ℕ × ℕ) × Shows held name text × (meaning text ≡ Err fault) × (refusal ≡ Input file fault.0 fault.1) × (now ≡ reads))
 

@@ -3,7 +3,6 @@
 ghost use Rattle.cgl_app.specs.CutAnswers.{ExceedsSizes};
 ghost use Rattle.cgl_app.specs.CutMeaning.{AreRight, MeetsListed};
 ghost use Rattle.cgl_app.specs.CutOf.{extension};
-ghost use Rattle.cgl_deck.specs.Extended.{AreInRows};
 ghost use Rattle.cgl_model.specs.declared.mip.Model.{Model};
 ghost use Rattle.cgl_model.specs.Feasible.{IsFeasible, SamePoints};
 ghost use Rattle.cgl_model.specs.HasDecimals.{HasDecimals};

@@ -2,7 +2,7 @@ ghost use Rattle.std.specs.Result.{result_err};
 ghost use Rattle.cgl_app.specs.Script.{Came};
 ghost use Rattle.cgl_app.specs.Commands.{command_script};
 ghost use Rattle.cgl_app.specs.Meant.{meant};
-ghost use Rattle.std.specs.Prelude.{◌≡◌, ◌↔◌, ◌⊎◌, ℕ, map, string_bytes, Some, None, IsSome};
+ghost use Rattle.std.specs.Prelude.{◌≡◌, map, string_bytes, Some};
 ghost use Rattle.cgl_app.specs.View.{view};
 ghost use Rattle.cgl_app.specs.Lines.{status_of};
 ghost use Rattle.cgl_app.specs.Ran.{Ran};
@@ -14,6 +14,7 @@ use crate::words::{Command, command_of};
 use cgl_outside::{Shelf, Sink};
 use std::alloc::Global;
 
+/// The exit status that tells the refusal.
 fn status_of(refusal: Refusal) -> u8
     ensures { result ≡ status_of (Some refusal) }
 {
@@ -71,7 +72,30 @@ fn follow<S: Shelf, O: Sink, E: Sink>(
     }
 }
 
-/// Does all that the program does, and gives its status.
+/// Does what the words behind the program's name ask for, and gives the exit status.
+///
+/// - `cut MODEL OUT PROOF --point FILE --gen round` reads the deck MODEL and the point FILE. It writes to OUT the deck
+///   with a further row for each cut that is listed for the point, and to PROOF the derivation of each, and puts the
+///   report on `out`.
+/// - `show MODEL OUT` reads the deck MODEL, writes its canonical text to OUT, and puts the counts of its rows, columns and
+///   entries on `out`.
+///
+/// The names of a command's files are not empty, do not begin with `-`, and differ from one another.
+///
+/// | Status | Comes where | Line on `err` |
+/// |---|---|---|
+/// | 0 | the work is done | none |
+/// | 2 | the words are of neither form | `cgl: bad command line` |
+/// | 3 | a read failed, or the file is not there | `cgl: read fault: FILE` |
+/// | 4 | a create or an append failed, or a put on `out` | `cgl: write fault: FILE`, or `standard output` for FILE |
+/// | 5 | the file is not in form: its first bad line and the kind of its fault | `cgl: input fault: FILE line L kind K` |
+/// | 6 | the deck to be written has more than 2^20 rows or 2^22 entries, or a file to be written more than 2^30 bytes | `cgl: too large` |
+/// | 7 | memory was refused | `cgl: out of memory` |
+///
+/// MODEL is read and judged before the point. On 4 the named file is as it was or holds a front of its text, or `out` got
+/// a front of its report. What comes before it, in the order OUT, PROOF, `out`, is whole, and what comes behind it is
+/// as it was. On each other status above 0 all files are as they were, and `out` got nothing. Only the files that are
+/// named to be written ever change. A failed put on `err` changes no status.
 pub fn run<S: Shelf, O: Sink, E: Sink>(
     alloc: Global,
     words: &[String],

@@ -1,4 +1,4 @@
-ghost use Rattle.std.specs.Prelude.{◌≡◌, List, map, codes, [], ◌∷◌};
+ghost use Rattle.std.specs.Prelude.{◌≡◌, map, codes};
 ghost use Rattle.cgl_app.specs.Lines.{Says, line_of, joined};
 ghost use Rattle.cgl_app.specs.Commands.{name_of};
 ghost use Rattle.cgl_app.specs.Meant.{meant};

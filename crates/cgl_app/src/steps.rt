@@ -1,4 +1,4 @@
-ghost use Rattle.std.specs.Prelude.{◌≡◌, ℕ, List, OnOk, IfOk, IfErr, length};
+ghost use Rattle.std.specs.Prelude.{◌≡◌, OnOk, IfOk, IfErr, length};
 ghost use Rattle.cgl_model.specs.Valid.{IsValid};
 ghost use Rattle.cgl_mps.specs.DeckResult.{deck_result};
 ghost use Rattle.cgl_where.specs.PointRead.{point_result};

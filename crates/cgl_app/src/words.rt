@@ -1,4 +1,4 @@
-ghost use Rattle.std.specs.Prelude.{◌≡◌, List, map, string_bytes, option_map};
+ghost use Rattle.std.specs.Prelude.{◌≡◌, map, string_bytes, option_map};
 ghost use Rattle.cgl_app.specs.Words.{is_name, are_files, asks_cut, asks_show, cut_of, show_of, command_of};
 ghost use Rattle.cgl_app.specs.Meant.{words_of, show_words_of, meant};
 
