@@ -1,5 +1,5 @@
 use cgl_model::RowKind;
-use cgl_mps::{DeckError, deck_of};
+use cgl_mps::deck_of;
 use std::test::Fail;
 
 const DECK: &[u8] = b"NAME deck
@@ -65,15 +65,5 @@ fn deck_gives_model(rt: HostRuntime) -> Result<(), Fail> {
             assert_eq!(rt; b.1.e(), -1);
         }
     }
-    Ok(())
-}
-
-#[test]
-fn deck_has_fault(rt: HostRuntime) -> Result<(), Fail> {
-    let Err(fault) = deck_of(rt.alloc(), b"ROWS\n N cost\n N cost\nENDATA\n") else {
-        assert!(rt; false);
-        return Ok(());
-    };
-    assert_eq!(rt; fault, DeckError::Fault { line: 3, kind: 7 });
     Ok(())
 }

@@ -65,19 +65,41 @@ fn order_is_that_of_the_rationals(rt: HostRuntime) {
     }
 }
 
+fn overflow(op: Op, a: Frac, b: Frac) -> Result<Frac, Overflow> {
+    Err(Overflow { op, a, b })
+}
+
 #[test]
 fn wide_results_keep_their_operands(rt: HostRuntime) {
     let top = Frac::new(i128::MAX, 1);
+    let bottom = Frac::new(-i128::MAX, 1);
+    let large = Frac::new(1 << 126, 1);
+    let finest = Frac::new(1, i128::MAX);
     let one = Frac::new(1, 1);
-    assert!(rt;
-        top.add(one)
-            == Err(Overflow {
-                op: Op::Add,
-                a: top,
-                b: one
-            })
-    );
-    assert!(rt; Frac::new(1 << 126, 1).add(Frac::new(1, 2)).is_err());
-    assert!(rt; top.mul(Frac::new(2, 1)).is_err());
-    assert!(rt; top.mul(Frac::new(2, i128::MAX)) == Ok(Frac::new(2, 1)));
+    let two = Frac::new(2, 1);
+    let half = Frac::new(1, 2);
+    assert!(rt; two.num() == 2);
+    assert!(rt; half.num() == 1);
+    assert!(rt; top.add(one) == overflow(Op::Add, top, one));
+    assert!(rt; large.add(half) == overflow(Op::Add, large, half));
+    assert!(rt; finest.add(half) == overflow(Op::Add, finest, half));
+    assert!(rt; bottom.sub(one) == overflow(Op::Sub, bottom, one));
+    assert!(rt; half.sub(finest) == overflow(Op::Sub, half, finest));
+    assert!(rt; top.mul(two) == overflow(Op::Mul, top, two));
+    assert!(rt; finest.mul(half) == overflow(Op::Mul, finest, half));
+    assert!(rt; top.div(half) == overflow(Op::Div, top, half));
+    assert!(rt; finest.div(two) == overflow(Op::Div, finest, two));
+}
+
+#[test]
+fn results_that_just_fit_are_given(rt: HostRuntime) {
+    let top = Frac::new(i128::MAX, 1);
+    let one = Frac::new(1, 1);
+    let two = Frac::new(2, 1);
+    assert!(rt; top.num() == i128::MAX);
+    assert!(rt; top.sub(one) == Ok(Frac::new(i128::MAX - 1, 1)));
+    assert!(rt; Frac::new(i128::MAX - 1, 1).add(one) == Ok(top));
+    assert!(rt; top.mul(Frac::new(2, i128::MAX)) == Ok(two));
+    assert!(rt; top.div(top) == Ok(one));
+    assert!(rt; one.div(top) == Ok(Frac::new(1, i128::MAX)));
 }

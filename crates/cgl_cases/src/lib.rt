@@ -1,24 +1,30 @@
-//! Worked cases of every crate, and of the program over files and outputs in memory.
+//! Worked cases of the crates that the program is made of.
 #![tactic(auto)]
 
 #[cfg(test)]
-mod cases;
+mod ample_memory;
+#[cfg(test)]
+mod cuts;
 #[cfg(test)]
 mod decimals;
 #[cfg(test)]
-mod deck_table;
+mod deck_faults;
+#[cfg(test)]
+mod deck_limits;
+#[cfg(test)]
+mod deck_reading;
+#[cfg(test)]
+mod deck_texts;
 #[cfg(test)]
 mod decks;
 #[cfg(test)]
-mod faults;
-#[cfg(test)]
 mod fractions;
-#[cfg(test)]
-mod hostile;
 #[cfg(test)]
 mod lines;
 #[cfg(test)]
 mod models;
+#[cfg(test)]
+mod pieces;
 #[cfg(test)]
 mod plain_points;
 #[cfg(test)]
@@ -26,8 +32,8 @@ mod point_table;
 #[cfg(test)]
 mod points;
 #[cfg(test)]
-mod shelves;
+mod row_ends;
 #[cfg(test)]
-mod shows;
+mod shelves;
 #[cfg(test)]
 mod texts;

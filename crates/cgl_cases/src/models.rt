@@ -1,68 +1,20 @@
-ghost use Rattle.std.specs.Prelude.{◌≡◌, ◌≤◌, ◌<ℤ◌, ◌^◌, ◌∷◌, [], length, pos, IfOk};
+//! The sides and the forms of a model, and violations.
+ghost use Rattle.std.specs.Prelude.{◌≡◌, ◌<ℤ◌, ◌∷◌, [], length, pos, IfOk};
+ghost use Rattle.cgl_model.specs.Valid.{IsValid};
 
-use cgl_model::{Column, End, Entries, Forms, Ineq, Model, Place, Point, Row, RowKind, Seq, Terms};
-use cgl_num::Dec;
+use cgl_model::{End, Forms, Ineq, Model, Place, Point, Seq, Terms};
+use cgl_mps::deck_of;
 use std::alloc::Global;
 use std::test::Fail;
 
-fn dec(text: &str) -> Result<Dec, Fail> {
-    Ok(Dec::read(text.as_bytes())?)
-}
-
-fn row(alloc: Global, kind: RowKind, rhs: &str, range: Option<Dec>) -> Result<Row, Fail> {
-    Ok(Row {
-        name: Seq::new(alloc),
-        kind,
-        rhs: dec(rhs)?,
-        range,
-    })
-}
-
-fn rows(alloc: Global) -> Result<Seq<Row>, Fail>
-    ensures { IfOk result (λ rows. length rows ≤ 2 ^ 20) }
-{
-    let mut rows = Seq::new(alloc);
-    rows.push(row(alloc, RowKind::L, "1.75", None)?)?;
-    rows.push(row(alloc, RowKind::L, "1", None)?)?;
-    rows.push(row(alloc, RowKind::L, "1", None)?)?;
-    rows.push(row(alloc, RowKind::E, "5", Some(dec("-2")?))?)?;
-    Ok(rows)
-}
-
-fn column(alloc: Global, lo: &str, entries: &[(u32, &str)]) -> Result<Column, Fail> {
-    let mut list = Entries::new(alloc);
-    for entry in entries {
-        list.push((entry.0, dec(entry.1)?))?;
-    }
-    Ok(Column {
-        name: Seq::new(alloc),
-        integer: false,
-        lo: Some(dec(lo)?),
-        up: None,
-        entries: list,
-    })
-}
-
-fn columns(alloc: Global) -> Result<Seq<Column>, Fail>
-    ensures { IfOk result (λ columns. length columns ≤ 2 ^ 20) }
-{
-    let mut columns = Seq::new(alloc);
-    let entries = [(0, "0.5"), (1, "1e30"), (2, "1e30"), (3, "1")];
-    columns.push(column(alloc, "0.5", &entries)?)?;
-    columns.push(column(alloc, "0", &[(0, "0.25"), (2, "0.1")])?)?;
-    Ok(columns)
-}
-
 /// `0.5x + 0.25y <= 1.75`, `1e30x <= 1`, `1e30x + 0.1y <= 1`, `x` from 3 to 5, with `x >= 0.5` and `y >= 0`.
 fn model(alloc: Global) -> Result<Model, Fail>
-    ensures { IfOk result (λ m. (length m.rows ≤ 2 ^ 20) × (length m.cols ≤ 2 ^ 20)) }
+    ensures { IfOk result IsValid }
 {
-    Ok(Model {
-        name: Seq::new(alloc),
-        maximise: false,
-        rows: rows(alloc)?,
-        cols: columns(alloc)?,
-    })
+    Ok(deck_of(
+        alloc,
+        b"ROWS\n L A\n L B\n L C\n E D\nCOLUMNS\n x A 0.5 B 1e30\n x C 1e30 D 1\n y A 0.25 C 0.1\nRHS\n S A 1.75 B 1\n S C 1 D 5\nRANGES\n S D -2\nBOUNDS\n LO B x 0.5\nENDATA\n",
+    )?)
 }
 
 #[test]
@@ -88,7 +40,7 @@ fn forms_of_a_model(rt: HostRuntime) -> Result<(), Fail> {
 }
 
 #[test]
-fn rows_and_places(rt: HostRuntime) -> Result<(), Fail> {
+fn places_have_sides(rt: HostRuntime) -> Result<(), Fail> {
     let m = model(rt.alloc())?;
     let forms = Forms::build(rt.alloc(), &m)?;
     let found = [
@@ -102,6 +54,13 @@ fn rows_and_places(rt: HostRuntime) -> Result<(), Fail> {
     for (place, number) in found {
         assert!(rt; forms.find(place) == number);
     }
+    Ok(())
+}
+
+#[test]
+fn wide_rows_have_no_form(rt: HostRuntime) -> Result<(), Fail> {
+    let m = model(rt.alloc())?;
+    let forms = Forms::build(rt.alloc(), &m)?;
     assert!(rt; !forms.wide(1));
     assert!(rt; forms.wide(2));
     assert!(rt; !forms.wide(9));

@@ -1,34 +1,15 @@
-use cgl_model::{Column, Entries, Model, Name, Point, Seq};
+use cgl_model::{Model, Point};
+use cgl_mps::deck_of;
 use cgl_where::{PointError, point_of};
-use std::alloc::{AllocError, Global};
+use std::alloc::Global;
 use std::test::Fail;
 
-fn named(alloc: Global, name: u8) -> Result<Name, AllocError> {
-    Ok(Seq::from_vec([name].to_vec(alloc)?))
-}
-
-fn column(alloc: Global, name: u8) -> Result<Column, AllocError> {
-    Ok(Column {
-        name: named(alloc, name)?,
-        integer: true,
-        lo: None,
-        up: None,
-        entries: Entries::new(alloc),
-    })
-}
-
 /// A model with the columns a, b and c.
-pub fn model(alloc: Global) -> Result<Model, AllocError> {
-    let mut columns = Vec::new(alloc);
-    columns.push(column(alloc, b'a')?)?;
-    columns.push(column(alloc, b'b')?)?;
-    columns.push(column(alloc, b'c')?)?;
-    Ok(Model {
-        name: named(alloc, b'P')?,
-        maximise: false,
-        rows: Seq::new(alloc),
-        cols: Seq::from_vec(columns),
-    })
+pub fn model(alloc: Global) -> Result<Model, Fail> {
+    Ok(deck_of(
+        alloc,
+        b"ROWS\n L R\nCOLUMNS\n a R 1\n b R 1\n c R 1\nENDATA\n",
+    )?)
 }
 
 pub fn read(alloc: Global, text: &[u8], model: &Model) -> Option<Result<Point, PointError>> {
