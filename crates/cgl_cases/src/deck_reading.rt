@@ -2,7 +2,6 @@
 use cgl_deck::deck_text;
 use cgl_mps::{DeckError, deck_of};
 use std::alloc::Global;
-use std::test::Fail;
 
 /// The canonical text of what the deck means, or its first fault.
 fn read(alloc: Global, deck: &[u8]) -> Result<Vec<u8>, DeckError> {
@@ -26,7 +25,7 @@ pub fn fault_of(alloc: Global, deck: &[u8]) -> (u64, u8) {
 }
 
 /// Whether the deck has this canonical text, and that text itself.
-pub fn is_text(alloc: Global, deck: &[u8], text: &[u8]) -> bool {
+fn is_text(alloc: Global, deck: &[u8], text: &[u8]) -> bool {
     let Ok(first) = read(alloc, deck) else {
         return false;
     };
@@ -54,17 +53,4 @@ pub fn first_other_text(alloc: Global, cases: &[(&[u8], &[u8])]) -> Option<usize
         }
     }
     None
-}
-
-/// The bytes, where `~` stands for a name of 256 bytes, one too many, and `^` for one of 255.
-pub fn with_long_names(alloc: Global, bytes: &[u8]) -> Result<Vec<u8>, Fail> {
-    let mut all = Vec::new(alloc);
-    for byte in bytes {
-        match *byte {
-            b'~' => all.extend_from_slice(&[b'x'; 256])?,
-            b'^' => all.extend_from_slice(&[b'y'; 255])?,
-            other => all.push(other)?,
-        }
-    }
-    Ok(all)
 }

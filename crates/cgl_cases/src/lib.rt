@@ -16,11 +16,7 @@ mod deck_reading;
 #[cfg(test)]
 mod deck_texts;
 #[cfg(test)]
-mod decks;
-#[cfg(test)]
 mod fractions;
-#[cfg(test)]
-mod lines;
 #[cfg(test)]
 mod models;
 #[cfg(test)]
@@ -33,7 +29,5 @@ mod point_table;
 mod points;
 #[cfg(test)]
 mod row_ends;
-#[cfg(test)]
-mod shelves;
 #[cfg(test)]
 mod texts;

@@ -2,7 +2,7 @@
 use crate::points;
 use cgl_model::Model;
 use cgl_mps::read_deck;
-use cgl_outside::{Call, Fail as Fault, MemShelf, ReadError, SureShelf, read_front, write_whole};
+use cgl_outside::{Call, Fail as Fault, MemShelf, ReadError, write_whole};
 use cgl_where::read_point;
 use std::alloc::Global;
 use std::test::Fail;
@@ -102,21 +102,6 @@ fn a_refused_second_piece_of_a_point_file_is_told(rt: HostRuntime) -> Result<(),
         read_point(alloc, &mut refused, "f", &model).err(),
         Some(ReadError::ReadFault)
     );
-    Ok(())
-}
-
-#[test]
-fn long_files_are_written_whole(rt: HostRuntime) -> Result<(), Fail> {
-    let alloc = rt.alloc();
-    for length in [PIECE - 1, PIECE, PIECE + 1] {
-        let file = filled(alloc, b"end", length)?;
-        let mut shelf = SureShelf::new(alloc);
-        assert!(rt; write_whole(&mut shelf, "f", &file).is_ok());
-        assert_eq!(rt; shelf.file("f"), Some(file.as_slice()));
-        let read = read_front(alloc, &mut shelf, "f", PIECE + 1)?;
-        assert_eq!(rt; read.as_slice(), file.as_slice());
-        assert_eq!(rt; shelf.refused(), 0);
-    }
     Ok(())
 }
 

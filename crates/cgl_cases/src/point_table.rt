@@ -146,41 +146,6 @@ fn readers_tell_the_first_of_two_faults(rt: HostRuntime) -> Result<(), Fail> {
 }
 
 #[test]
-fn readers_give_one_point(rt: HostRuntime) -> Result<(), Fail> {
-    let model = model(rt.alloc())?;
-    let files: [&[u8]; 20] = [
-        b"a 1/2147483648\nb 1/2147483647\nc 1/2\n",
-        b"c 1/2147483648\nb 1/2147483648\na 1/2\n",
-        b"a 1/4611686018427387904\nb 1/2\nc 1/4",
-        b"a 1/4611686018427387904",
-        b"a 4611686018427387905/4611686018427387905",
-        b"a 1/4294967296\nb 1/1073741823\nc 1/1073741823",
-        b"a 0.123456789012345678",
-        b"a 1e-18\nb 1/2\nc 1/5",
-        b"a 1e-18\nb 1/3\nc 1",
-        b"a 0/4611686018427387905\nb 0/3\nc 0.000",
-        b"a 1267650600228229401496703205375/1",
-        b"a -1267650600228229401496703205375/1",
-        b"a 1/2\nb 633825300114114700748351602687/1\nc 1",
-        b"a 1/2\nb 1/2\nc -633825300114114700748351602687/1",
-        b"a 633825300114114700748351602687/1\nb 1/2\nc 1/2",
-        b"a 1267650600228229401496703205375/3\nb 1/3\nc 1",
-        b"a 1e30",
-        b"\ta\t1\r\n",
-        b"a\r1",
-        b"a\r1\r\r\n",
-    ];
-    for text in files {
-        assert!(rt; agree(rt.alloc(), text, &model)?, "{text:?}");
-        assert!(rt;
-            fault_of(read(rt.alloc(), text, &model)) == (0, 0),
-            "{text:?}"
-        );
-    }
-    Ok(())
-}
-
-#[test]
 fn readers_pass_over_blanks_and_comments(rt: HostRuntime) -> Result<(), Fail> {
     let model = model(rt.alloc())?;
     let files: [&[u8]; 19] = [

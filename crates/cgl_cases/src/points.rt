@@ -19,14 +19,6 @@ pub fn read(alloc: Global, text: &[u8], model: &Model) -> Option<Result<Point, P
     Some(point_of(alloc, text, model))
 }
 
-/// Whether the answer is the fault.
-fn is_fault(answer: Option<Result<Point, PointError>>, line: u64, kind: u8) -> bool {
-    match answer {
-        Some(Err(e)) => e == PointError::Fault { line, kind },
-        _ => false,
-    }
-}
-
 /// Whether the answer is the point.
 fn is_point(answer: Option<Result<Point, PointError>>, p: &[i128], d: i128) -> bool {
     match answer {
@@ -63,45 +55,5 @@ fn points_are_read(rt: HostRuntime) -> Result<(), Fail> {
     for (text, p, d) in cases {
         assert!(rt; is_point(read(alloc, text, &model), &p, d), "{text:?}");
     }
-    Ok(())
-}
-
-#[test]
-fn faults_are_told(rt: HostRuntime) -> Result<(), Fail> {
-    let alloc = rt.alloc();
-    let model = model(alloc)?;
-    let cases: [(&[u8], u64, u8); 17] = [
-        (b"a 0.1234567890123456789", 1, 13),
-        (b"q 1", 1, 6),
-        (b"a 1\na 1", 2, 14),
-        (b"a 1/0", 1, 4),
-        (b"a 1/+2", 1, 4),
-        (b"a 1/2/3", 1, 4),
-        (b"a /2", 1, 4),
-        (b"a 1.5/2", 1, 4),
-        (b"a 1e36", 1, 4),
-        (b"a 1000000000000000000000000000000000000/3", 1, 4),
-        (b"* a\n\na", 3, 3),
-        (b"a 1 2\nq", 1, 3),
-        (b"q x\na x", 1, 6),
-        (b"a 1/2147483648\nb 1/2147483647\nc 1/3", 3, 13),
-        (b"a 1/2147483648\nb 1/2147483649\nc 1/3", 2, 13),
-        (b"a 1/4611686018427387905", 1, 13),
-        (b"a 1267650600228229401496703205376/1", 1, 13),
-    ];
-    for (text, line, kind) in cases {
-        assert!(rt; is_fault(read(alloc, text, &model), line, kind), "{text:?}");
-    }
-    Ok(())
-}
-
-#[test]
-fn long_lines_are_told(rt: HostRuntime) -> Result<(), Fail> {
-    let alloc = rt.alloc();
-    let model = model(alloc)?;
-    let longest = [b'*'; 4096];
-    let longer = [b'*'; 4097];
-    assert!(rt; is_point(read(alloc, &longest, &model), &[0, 0, 0], 1));
-    assert!(rt; is_fault(read(alloc, &longer, &model), 1, 11));
     Ok(())
 }

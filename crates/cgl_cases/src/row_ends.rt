@@ -1,5 +1,4 @@
 //! The ends of rows by their kinds, right sides and ranges.
-use crate::deck_reading::is_text;
 use cgl_model::{Forms, Model};
 use cgl_mps::{DeckError, deck_of};
 use std::alloc::Global;
@@ -78,15 +77,5 @@ fn ends_follow_from_kind_right_side_and_range(rt: HostRuntime) -> Result<(), Fai
         ("N", " S R 0\n", Some(0), None, None),
     ];
     assert_eq!(rt; first_other(rt.alloc(), &cases)?, None);
-    Ok(())
-}
-
-#[test]
-fn rows_without_ends_are_written_with_their_numbers(rt: HostRuntime) -> Result<(), Fail> {
-    let deck =
-        b"ROWS\n N f\n N g\n L R\nCOLUMNS\n x f 1 g 2\n x R 3\nRHS\n S f -3 g 4\nRANGES\n S f 0 g -1\nENDATA\n";
-    let text =
-        b"NAME\nROWS\n N f\n N g\n L R\nCOLUMNS\n x f 1\n x g 2\n x R 3\nRHS\n RHS f -3\n RHS g 4\nRANGES\n RNG f 0\n RNG g -1\nENDATA\n";
-    assert!(rt; is_text(rt.alloc(), deck, text));
     Ok(())
 }

@@ -1,5 +1,5 @@
 //! Cuts as further rows of a model, and as rows of its text.
-use cgl_deck::{ExtendError, cut_names, deck_len, deck_text, with_cuts};
+use cgl_deck::{cut_names, deck_len, deck_text, with_cuts};
 use cgl_model::{Ineq, Terms};
 use cgl_mps::deck_of;
 use std::alloc::Global;
@@ -80,26 +80,5 @@ fn used_names_are_passed_over(rt: HostRuntime) -> Result<(), Fail> {
         }
         _ => assert!(rt; false),
     }
-    Ok(())
-}
-
-#[test]
-fn cuts_out_of_form_are_refused(rt: HostRuntime) -> Result<(), Fail> {
-    let alloc = rt.alloc();
-    let model = deck_of(alloc, DECK)?;
-    let cuts = [at_most(alloc, -1)?, at_most(alloc, 10i128.pow(36))?];
-    assert!(rt;
-        matches!(
-            with_cuts(alloc, &model, &cuts),
-            Err(ExtendError::NotDec { cut: 1 })
-        )
-    );
-    let empty = deck_of(alloc, b"ENDATA\n")?;
-    assert!(rt;
-        matches!(
-            with_cuts(alloc, &empty, &cuts),
-            Err(ExtendError::Unknown { cut: 0 })
-        )
-    );
     Ok(())
 }
