@@ -1,3 +1,4 @@
+pub mod StepLaws
 pub mod ValueLaws
 pub mod LcmLaws
 pub mod PointLaws
