@@ -68,6 +68,16 @@ fn common_denominator(values: &[Frac]) -> Option<u128>
     Some(d)
 }
 
+/// The numerator, unless it reaches 2^100.
+fn fitting_numerator(number: i128) -> Option<i128>
+    ensures { result ≡ fitting_numerator number }
+{
+    if number.unsigned_abs() >= NUMERATOR_END {
+        return None;
+    }
+    Some(number)
+}
+
 /// The numerator over the denominator d, unless it reaches 2^100.
 fn numerator_over(d: u128, f: Frac) -> Option<i128>
     requires { d ≤ 2 ^ 62 }
@@ -75,12 +85,7 @@ fn numerator_over(d: u128, f: Frac) -> Option<i128>
 {
     let factor = (d / den(f)) as i128;
     match f.num().checked_mul(factor) {
-        Some(number) => {
-            if number.unsigned_abs() >= NUMERATOR_END {
-                return None;
-            }
-            Some(number)
-        }
+        Some(number) => fitting_numerator(number),
         None => None,
     }
 }
