@@ -1,7 +1,4 @@
-use Rattle.std.proofs.Common.{arith, rules}
-use Rattle.std.proofs.lemmas.Grind.{common_steps}
-use Rattle.std.proofs.lemmas.Int.{ints}
-use Rattle.std.proofs.lemmas.Bool.Decides.{nat_tests}
+use Rattle.std.proofs.Common.{rules}
 use Rattle.cgl_where.proofs.values.scaled.Goals as goal
 
 pub overflow_cast-e : goal.overflow_cast-e
