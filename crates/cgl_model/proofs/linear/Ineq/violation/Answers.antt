@@ -1,29 +1,98 @@
-use Rattle.std.proofs.Common.{rules, ◌≡◌, ℤ, List, ◌∙◌, arith}
-use Rattle.std.specs.Prelude.{◌*ℤ◌, ◌-ℤ◌, FitsSigned}
+use Rattle.std.proofs.Common.{rules, ◌≡◌, ℕ, ℤ, pos, ◌+◌, ◌*◌, ◌<◌, ◌≤◌, ◌^◌, to_z, of_z, arith}
+use Rattle.std.specs.Prelude.{◌+ℤ◌, ◌*ℤ◌, ◌-ℤ◌, unsigned_abs, FitsSigned}
 use Rattle.std.specs.Int.{w128}
-use Rattle.std.proofs.lemmas.Int.{ints, to_z-of_z, unsigned_abs-mul}
-use Rattle.cgl_num.specs.Fraction.{Fraction, lowest}
-use Rattle.cgl_model.specs.Inequality.{Term, sum_at}
+use Rattle.std.proofs.lemmas.Int.{ints, fits_signed_from_abs, to_z-of_z, unsigned_abs-mul}
+use Rattle.std.proofs.lemmas.Result.{err_from_is_err_and}
 use Rattle.cgl_model.proofs.linear.Ineq.violation.Goals as goal
 
-same_lowest : (f : Fraction) (n d m e : ℤ) → f ≡ lowest n d → n ≡ m → d ≡ e → f ≡ lowest m e
-same_lowest f n d m e is p q = cc
+product_is : (a b d s : ℤ) → FitsSigned w128 a → FitsSigned w128 b → b ≡ d → s ≡ pos 0 +ℤ to_z w128 (of_z w128 a) *ℤ to_z w128 (of_z w128 b) → s ≡ a *ℤ d
+product_is a b d s f g e is =
+    let product = rw (to_z-of_z w128 a f, to_z-of_z w128 b g, e) at is in
+    omega (arith, ints)
 
-same_sum : (p q : List ℤ) (t u : List Term) → p ≡ q → t ≡ u → sum_at p t ≡ sum_at q u
-same_sum p q t u e f = cc
+magnitude_is : (a b d : ℤ) (m : ℕ) → FitsSigned w128 a → FitsSigned w128 b → b ≡ d
+    → m ≡ 0 + unsigned_abs (to_z w128 (of_z w128 a)) * unsigned_abs (to_z w128 (of_z w128 b)) → m ≡ unsigned_abs a * unsigned_abs d
+magnitude_is a b d m f g e is =
+    let product = rw (to_z-of_z w128 a f, to_z-of_z w128 b g, e) at is in
+    omega arith
+
+-- the right side x times the denominator d is a, and b is the sum
+record AreApart (x d a b : ℤ) : Type 0 where
+  bound : a ≡ x *ℤ d
+  first : FitsSigned w128 a
+  second : FitsSigned w128 b
+  narrow : unsigned_abs (a -ℤ b) < 2 ^ 127
+
+apart : (x d a b : ℤ) (m n : ℕ) → a ≡ x *ℤ d → m ≡ unsigned_abs x * unsigned_abs d → unsigned_abs b + m ≤ n → n < 2 ^ 127 → AreApart x d a b
+apart x d a b m n e f within narrow =
+    let product = unsigned_abs-mul x d in
+    record {
+      bound = e;
+      first = fits_signed_from_abs w128 a (omega (arith, ints));
+      second = fits_signed_from_abs w128 b (omega arith);
+      narrow = omega (arith, ints);
+    }
+
+more : (n k m : ℕ) → m ≤ 0 + n → m ≤ n + k
+more n k m h = omega arith
+
+below : (m n : ℕ) → m ≡ n → m < 2 ^ 127 → n < 2 ^ 127
+below m n e h = rw e at h
+
+pub returns-in_err-bound-clause-wide : goal.returns-in_err-bound-clause-wide
+returns-in_err-bound-clause-wide c =
+    let rhs : FitsSigned w128 c.args.self.now.rhs = search rules in
+    let den : FitsSigned w128 c.denominator.result = record { sfits = c.denominator.type_inv } in
+    let wide = rw (to_z-of_z w128 c.args.self.now.rhs rhs, to_z-of_z w128 c.denominator.result den, c.denominator.ensures.value) at c.in_err-bound.ensures.wide in
+    let p = err_from_is_err_and c.from_residual.result c.from_residual.ensures.1 in
+    rw (p.1) (more _ _ _ wide)
+
+pub returns-in_err-sum-clause-wide : goal.returns-in_err-sum-clause-wide
+returns-in_err-sum-clause-wide c =
+    let rhs : FitsSigned w128 c.args.self.now.rhs = search rules in
+    let den : FitsSigned w128 c.denominator.result = record { sfits = c.denominator.type_inv } in
+    let magnitude = magnitude_is c.args.self.now.rhs c.denominator.result c.args.x.now.d _ rhs den c.denominator.ensures.value c.in_ok-bound.ensures.magnitude in
+    let wide = rw (magnitude, c.numerators.ensures, c.as_slice.ensures.value) at c.in_err-sum.ensures.wide in
+    let p = err_from_is_err_and c.from_residual-in_err-sum.result c.from_residual-in_err-sum.ensures.1 in
+    rw (p.1) wide
+
+pub overflow_sub-bound : goal.overflow_sub-bound
+overflow_sub-bound c =
+    let rhs : FitsSigned w128 c.args.self.now.rhs = search rules in
+    let den : FitsSigned w128 c.denominator.result = record { sfits = c.denominator.type_inv } in
+    let magnitude = magnitude_is c.args.self.now.rhs c.denominator.result c.args.x.now.d _ rhs den c.denominator.ensures.value c.in_ok-bound.ensures.magnitude in
+    let bound = product_is c.args.self.now.rhs c.denominator.result c.args.x.now.d _ rhs den c.denominator.ensures.value c.in_ok-bound.ensures.sum in
+    let parts = apart c.args.self.now.rhs c.args.x.now.d c.in_ok-bound.bound.sum c.in_ok-sum.sum.sum _ _ bound magnitude c.in_ok-sum.ensures.within c.in_ok-sum.ensures.narrow in
+    rw (to_z-of_z w128 _ parts.first, to_z-of_z w128 _ parts.second) (fits_signed_from_abs w128 _ parts.narrow)
+
+pub new-requires-clause-narrow_num : goal.new-requires-clause-narrow_num
+new-requires-clause-narrow_num c =
+    let rhs : FitsSigned w128 c.args.self.now.rhs = search rules in
+    let den : FitsSigned w128 c.denominator.result = record { sfits = c.denominator.type_inv } in
+    let magnitude = magnitude_is c.args.self.now.rhs c.denominator.result c.args.x.now.d _ rhs den c.denominator.ensures.value c.in_ok-bound.ensures.magnitude in
+    let bound = product_is c.args.self.now.rhs c.denominator.result c.args.x.now.d _ rhs den c.denominator.ensures.value c.in_ok-bound.ensures.sum in
+    let parts = apart c.args.self.now.rhs c.args.x.now.d c.in_ok-bound.bound.sum c.in_ok-sum.sum.sum _ _ bound magnitude c.in_ok-sum.ensures.within c.in_ok-sum.ensures.narrow in
+    rw (to_z-of_z w128 _ parts.first, to_z-of_z w128 _ parts.second, to_z-of_z w128 _ (fits_signed_from_abs w128 _ parts.narrow)) parts.narrow
+
+pub new-requires-clause-positive : goal.new-requires-clause-positive
+new-requires-clause-positive c =
+    let den : FitsSigned w128 c.denominator-2.result = record { sfits = c.denominator-2.type_inv } in
+    rw (to_z-of_z w128 c.denominator-2.result den, c.denominator-2.ensures.value) c.denominator-2.ensures.positive
 
 pub returns-clause-ok : goal.returns-clause-ok
 returns-clause-ok c =
     let rhs : FitsSigned w128 c.args.self.now.rhs = search rules in
-    let den : FitsSigned w128 c.denominator.result = search rules in
-    let first = to_z-of_z w128 c.args.self.now.rhs rhs in
-    let second = to_z-of_z w128 c.denominator.result den in
-    let bound = rw (first, second, c.denominator.ensures.value) at c.in_ok-bound.ensures.sum in
-    let magnitude = rw (first, second, c.denominator.ensures.value) at c.in_ok-bound.ensures.magnitude in
-    let product = unsigned_abs-mul c.args.self.now.rhs c.args.x.now.d in
-    let sum = c.in_ok-sum.ensures.sum ∙ same_sum _ _ _ _ c.numerators.ensures c.as_slice.ensures.value in
-    let within = c.in_ok-sum.ensures.within in
-    let narrow = c.in_ok-sum.ensures.narrow in
-    same_lowest _ _ _ (c.args.self.now.rhs *ℤ c.args.x.now.d -ℤ sum_at c.args.x.now.p c.args.self.now.terms) c.args.x.now.d c.new.ensures.value
-    (omega (arith, ints, bound, magnitude, product, sum, within, narrow))
-    (omega (arith, ints, c.denominator-2.ensures.value, c.denominator.ensures.value, den))
+    let den : FitsSigned w128 c.denominator.result = record { sfits = c.denominator.type_inv } in
+    let magnitude = magnitude_is c.args.self.now.rhs c.denominator.result c.args.x.now.d _ rhs den c.denominator.ensures.value c.in_ok-bound.ensures.magnitude in
+    let bound = product_is c.args.self.now.rhs c.denominator.result c.args.x.now.d _ rhs den c.denominator.ensures.value c.in_ok-bound.ensures.sum in
+    let parts = apart c.args.self.now.rhs c.args.x.now.d c.in_ok-bound.bound.sum c.in_ok-sum.sum.sum _ _ bound magnitude c.in_ok-sum.ensures.within c.in_ok-sum.ensures.narrow in
+    let den_is = to_z-of_z w128 c.denominator-2.result (record { sfits = c.denominator-2.type_inv }) in
+    rw (to_z-of_z w128 _ parts.first, to_z-of_z w128 _ parts.second, to_z-of_z w128 _ (fits_signed_from_abs w128 _ parts.narrow), parts.bound, c.in_ok-sum.ensures.sum, c.numerators.ensures, c.as_slice.ensures.value, den_is, c.denominator-2.ensures.value) at c.new.ensures.value
+
+pub returns-clause-narrow : goal.returns-clause-narrow
+returns-clause-narrow c =
+    let rhs : FitsSigned w128 c.args.self.now.rhs = search rules in
+    let den : FitsSigned w128 c.denominator.result = record { sfits = c.denominator.type_inv } in
+    let magnitude = magnitude_is c.args.self.now.rhs c.denominator.result c.args.x.now.d _ rhs den c.denominator.ensures.value c.in_ok-bound.ensures.magnitude in
+    let sum = rw (magnitude, c.numerators.ensures, c.as_slice.ensures.value) at c.in_ok-sum.ensures.magnitude in
+    below _ _ sum c.in_ok-sum.ensures.narrow
