@@ -1,18 +1,21 @@
 -- The steps by which forms are built.
 use Rattle.std.proofs.Common.{◌≡◌, ℕ, zero, suc, ℤ, pos, negsuc, ◌+◌, ◌*◌, ◌^◌, ◌≤◌, ◌<◌, max, ap, refl, sym, ◌∙◌, subst, arith, lit<, List, [], ◌∷◌, ◌++◌, ◌-◌, map, length, take, drop, get_or, true, false}
-use Rattle.std.specs.Prelude.{◌*ℤ◌, unsigned_abs, option_to_list}
+use Rattle.std.specs.Prelude.{◌*ℤ◌, unsigned_abs, FitsSigned, Option, Some, None, option_to_list}
+use Rattle.std.specs.Int.{w128}
 use Rattle.std.proofs.Math.Nat.{pow-le-pow_right}
-use Rattle.std.proofs.lemmas.Int.{unsigned_abs-mul}
+use Rattle.std.proofs.lemmas.Int.{fits_signed_from_abs, unsigned_abs-mul}
 use Rattle.std.proofs.lemmas.List.{map_more, take_all}
 use Rattle.std.proofs.lemmas.Bool.{le-leb, leb-false, or_parts, or_left, or_right}
 use Rattle.std.specs.List.{filter, list_any}
+use Rattle.std.specs.Option.{IfSome}
 use Rattle.std.proofs.lemmas.List.Elements.{filter-append}
 use Rattle.std.proofs.Math.Seq.{drop-cons}
 use Rattle.cgl_num.specs.Gcd.{gcd, gcd_of}
 use Rattle.cgl_num.specs.Decimal.{Decimal, places, scaled}
 use Rattle.cgl_model.specs.declared.mip.Row.{Row}
+use Rattle.cgl_model.specs.declared.row_numbers.RowNumbers.{RowNumbers}
 use Rattle.cgl_model.specs.Inequality.{Term}
-use Rattle.cgl_model.specs.IntegerForm.{divided, is_nonzero_term, is_wide_number, most_places, row_places, scaled_term}
+use Rattle.cgl_model.specs.IntegerForm.{divided, is_nonzero_term, is_wide_number, most_places, row_numbers, row_places, scaled_term}
 use Rattle.cgl_model.proofs.RowLaws.{numbers_of}
 
 -- ---- decimal places
@@ -79,6 +82,26 @@ narrow_at (u ∷ terms) rest (suc i) t e h = narrow_at terms rest i t (or_parts 
 
 pub narrow_first : (z : ℤ) (rest : List ℤ) → list_any is_wide_number (z ∷ rest) ≡ false → (unsigned_abs z < 2 ^ 100) × (list_any is_wide_number rest ≡ false)
 narrow_first z rest e = let parts = or_parts (is_wide_number z) _ e in (is_narrow z parts.0, parts.1)
+
+narrow_rest : (terms : List Term) (rest : List ℤ) → list_any is_wide_number (map (λ t. t.1) terms ++ rest) ≡ false → list_any is_wide_number rest ≡ false
+narrow_rest [] rest e = e
+narrow_rest (t ∷ terms) rest e = narrow_rest terms rest (or_parts (is_wide_number t.1) _ e).1
+
+pub narrow_some : (range : Option ℤ) → list_any is_wide_number (option_to_list range) ≡ false → IfSome range (λ r. unsigned_abs r < 2 ^ 100)
+narrow_some None e = tt
+narrow_some (Some r) e = (narrow_first r [] e).0
+
+-- what narrow numbers of a row say of its right side and its range
+pub record AreNarrowSides (rhs : ℤ) (range : Option ℤ) : Type 0 where
+  pub right : unsigned_abs rhs < 2 ^ 100
+  pub fits : FitsSigned w128 rhs
+  pub range_any : list_any is_wide_number (option_to_list range) ≡ false
+  pub range_each : IfSome range (λ r. unsigned_abs r < 2 ^ 100)
+
+pub narrow_sides : (n : RowNumbers) → list_any is_wide_number (row_numbers n) ≡ false → AreNarrowSides n.rhs n.range
+narrow_sides n e =
+    let parts = narrow_first n.rhs (option_to_list n.range) (narrow_rest n.coeffs (n.rhs ∷ option_to_list n.range) e) in
+    record { right = parts.0; fits = fits_signed_from_abs w128 n.rhs (omega (arith, parts.0)); range_any = parts.1; range_each = narrow_some n.range parts.1 }
 
 pub gcd_step : (terms : List Term) (rest : List ℤ) (i : ℕ) (t : Term) (d r : ℤ) → 0 < i → i ≤ length terms
     → d ≡ pos (gcd_of (map (λ t. t.1) (drop i terms) ++ rest)) → r ≡ pos (gcd (unsigned_abs (get_or terms (i - 1) t).1) (unsigned_abs d))

@@ -5,7 +5,7 @@ use Rattle.std.specs.List.{All, AllByRecursion, list_any}
 use Rattle.std.specs.Option.{IfSome}
 use Rattle.std.proofs.lemmas.List.Folds.{list_any-append}
 use Rattle.std.proofs.lemmas.List.Elements.{All-from_recursion}
-use Rattle.std.proofs.lemmas.Bool.{cond-true, cond-false, or_from, or_left}
+use Rattle.std.proofs.lemmas.Bool.{cond-true, cond-false, or_from, or_left, or_right}
 use Rattle.cgl_num.specs.Decimal.{Decimal, places}
 use Rattle.cgl_num.specs.Gcd.{gcd_of}
 use Rattle.cgl_model.specs.declared.mip.RowKind.{RowKind}
@@ -73,5 +73,15 @@ narrow_shape kind n f a b c e =
     let narrow : is_wide_row kind n ≡ false = list_any-append is_wide_number (row_numbers n) (row_ends kind n) ∙ or_from _ _ a ends in
     ap Form e ∙ sym (cond-false (is_wide_row kind n) Wide _ narrow)
 
-pub narrow_end : (wide : Bool) (x y : Option ℤ) → wide ≡ list_any is_wide_number (option_to_list x) → x ≡ y → wide ≡ false → list_any is_wide_number (option_to_list y) ≡ false
-narrow_end wide x y is e f = ap (λ z. list_any is_wide_number (option_to_list z)) (sym e) ∙ sym is ∙ f
+-- an end is found as `x`, which is `y`
+pub end_is : (wide : Bool) (x y : Option ℤ) (is : Bool) → wide ≡ list_any is_wide_number (option_to_list x) → x ≡ y → wide ≡ is → list_any is_wide_number (option_to_list y) ≡ is
+end_is wide x y is e f g = ap (λ z. list_any is_wide_number (option_to_list z)) (sym f) ∙ sym e ∙ g
+
+wide_ends : (kind : RowKind) (n : RowNumbers) → list_any is_wide_number (row_ends kind n) ≡ true → Wide ≡ shape_of_numbers kind n
+wide_ends kind n h = sym (cond-true (is_wide_row kind n) Wide _ (list_any-append is_wide_number (row_numbers n) (row_ends kind n) ∙ or_right _ _ h))
+
+pub wide_lower : (kind : RowKind) (n : RowNumbers) → list_any is_wide_number (option_to_list (lower_end kind n.rhs n.range)) ≡ true → Wide ≡ shape_of_numbers kind n
+wide_lower kind n h = wide_ends kind n (list_any-append is_wide_number (option_to_list (lower_end kind n.rhs n.range)) (option_to_list (upper_end kind n.rhs n.range)) ∙ or_left _ _ h)
+
+pub wide_upper : (kind : RowKind) (n : RowNumbers) → list_any is_wide_number (option_to_list (upper_end kind n.rhs n.range)) ≡ true → Wide ≡ shape_of_numbers kind n
+wide_upper kind n h = wide_ends kind n (list_any-append is_wide_number (option_to_list (lower_end kind n.rhs n.range)) (option_to_list (upper_end kind n.rhs n.range)) ∙ or_right _ _ h)

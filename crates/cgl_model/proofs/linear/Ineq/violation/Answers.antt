@@ -3,6 +3,7 @@ use Rattle.std.specs.Prelude.{◌+ℤ◌, ◌*ℤ◌, ◌-ℤ◌, unsigned_abs, 
 use Rattle.std.specs.Int.{w128}
 use Rattle.std.proofs.lemmas.Int.{ints, fits_signed_from_abs, to_z-of_z, unsigned_abs-mul}
 use Rattle.std.proofs.lemmas.Result.{err_from_is_err_and}
+use Rattle.cgl_num.specs.Fraction.{Fraction, lowest}
 use Rattle.cgl_model.proofs.linear.Ineq.violation.Goals as goal
 
 product_is : (a b d s : ℤ) → FitsSigned w128 a → FitsSigned w128 b → b ≡ d → s ≡ pos 0 +ℤ to_z w128 (of_z w128 a) *ℤ to_z w128 (of_z w128 b) → s ≡ a *ℤ d
@@ -32,6 +33,11 @@ apart x d a b m n e f within narrow =
       second = fits_signed_from_abs w128 b (omega arith);
       narrow = omega (arith, ints);
     }
+
+lowest_is : (f : Fraction) (x d a b s e : ℤ) → AreApart x d a b → f ≡ lowest (to_z w128 (of_z w128 (to_z w128 (of_z w128 a) -ℤ to_z w128 (of_z w128 b)))) (to_z w128 (of_z w128 e))
+    → FitsSigned w128 e → e ≡ d → b ≡ s → f ≡ lowest (x *ℤ d -ℤ s) d
+lowest_is f x d a b s e parts is fits den sum =
+    rw (to_z-of_z w128 a parts.first, to_z-of_z w128 b parts.second, to_z-of_z w128 (a -ℤ b) (fits_signed_from_abs w128 _ parts.narrow), parts.bound, sum, to_z-of_z w128 e fits, den) at is
 
 more : (n k m : ℕ) → m ≤ 0 + n → m ≤ n + k
 more n k m h = omega arith
@@ -86,8 +92,9 @@ returns-clause-ok c =
     let magnitude = magnitude_is c.args.self.now.rhs c.denominator.result c.args.x.now.d _ rhs den c.denominator.ensures.value c.in_ok-bound.ensures.magnitude in
     let bound = product_is c.args.self.now.rhs c.denominator.result c.args.x.now.d _ rhs den c.denominator.ensures.value c.in_ok-bound.ensures.sum in
     let parts = apart c.args.self.now.rhs c.args.x.now.d c.in_ok-bound.bound.sum c.in_ok-sum.sum.sum _ _ bound magnitude c.in_ok-sum.ensures.within c.in_ok-sum.ensures.narrow in
-    let den_is = to_z-of_z w128 c.denominator-2.result (record { sfits = c.denominator-2.type_inv }) in
-    rw (to_z-of_z w128 _ parts.first, to_z-of_z w128 _ parts.second, to_z-of_z w128 _ (fits_signed_from_abs w128 _ parts.narrow), parts.bound, c.in_ok-sum.ensures.sum, c.numerators.ensures, c.as_slice.ensures.value, den_is, c.denominator-2.ensures.value) at c.new.ensures.value
+    let den : FitsSigned w128 c.denominator-2.result = record { sfits = c.denominator-2.type_inv } in
+    let sum = rw (c.numerators.ensures, c.as_slice.ensures.value) at c.in_ok-sum.ensures.sum in
+    lowest_is _ c.args.self.now.rhs c.args.x.now.d c.in_ok-bound.bound.sum c.in_ok-sum.sum.sum _ c.denominator-2.result parts c.new.ensures.value den c.denominator-2.ensures.value sum
 
 pub returns-clause-narrow : goal.returns-clause-narrow
 returns-clause-narrow c =
