@@ -1,9 +1,10 @@
-use Rattle.std.proofs.Common.{rules, ◌≡◌, ℕ, ℤ, pos, ◌+◌, ◌*◌, ◌<◌, ◌≤◌, ◌^◌, to_z, of_z, arith}
+use Rattle.std.proofs.Common.{rules, ◌≡◌, ◌∙◌, subst, List, ℕ, ℤ, pos, ◌+◌, ◌*◌, ◌<◌, ◌≤◌, ◌^◌, to_z, of_z, arith}
 use Rattle.std.specs.Prelude.{◌+ℤ◌, ◌*ℤ◌, ◌-ℤ◌, unsigned_abs, FitsSigned}
 use Rattle.std.specs.Int.{w128}
 use Rattle.std.proofs.lemmas.Int.{ints, fits_signed_from_abs, to_z-of_z, unsigned_abs-mul}
-use Rattle.std.proofs.lemmas.Result.{err_from_is_err_and}
 use Rattle.cgl_num.specs.Fraction.{Fraction, lowest}
+use Rattle.cgl_model.specs.Inequality.{Term, magnitudes_at, sum_at}
+use Rattle.cgl_model.proofs.TermLaws.{on_err}
 use Rattle.cgl_model.proofs.linear.Ineq.violation.Goals as goal
 
 product_is : (a b d s : ℤ) → FitsSigned w128 a → FitsSigned w128 b → b ≡ d → s ≡ pos 0 +ℤ to_z w128 (of_z w128 a) *ℤ to_z w128 (of_z w128 b) → s ≡ a *ℤ d
@@ -34,33 +35,39 @@ apart x d a b m n e f within narrow =
       narrow = omega (arith, ints);
     }
 
+difference_is : (x d a b : ℤ) → AreApart x d a b → to_z w128 (of_z w128 a) -ℤ to_z w128 (of_z w128 b) ≡ a -ℤ b
+difference_is x d a b parts = rw (to_z-of_z w128 a parts.first, to_z-of_z w128 b parts.second)
+
 lowest_is : (f : Fraction) (x d a b s e : ℤ) → AreApart x d a b → f ≡ lowest (to_z w128 (of_z w128 (to_z w128 (of_z w128 a) -ℤ to_z w128 (of_z w128 b)))) (to_z w128 (of_z w128 e))
     → FitsSigned w128 e → e ≡ d → b ≡ s → f ≡ lowest (x *ℤ d -ℤ s) d
 lowest_is f x d a b s e parts is fits den sum =
-    rw (to_z-of_z w128 a parts.first, to_z-of_z w128 b parts.second, to_z-of_z w128 (a -ℤ b) (fits_signed_from_abs w128 _ parts.narrow), parts.bound, sum, to_z-of_z w128 e fits, den) at is
+    rw (difference_is x d a b parts, to_z-of_z w128 (a -ℤ b) (fits_signed_from_abs w128 _ parts.narrow), parts.bound, sum, to_z-of_z w128 e fits, den) at is
 
-more : (n k m : ℕ) → m ≤ 0 + n → m ≤ n + k
-more n k m h = omega arith
+same_sum : (p q : List ℤ) (t u : List Term) → p ≡ q → t ≡ u → sum_at p t ≡ sum_at q u
+same_sum p q t u e f = cc
 
-below : (m n : ℕ) → m ≡ n → m < 2 ^ 127 → n < 2 ^ 127
-below m n e h = rw e at h
+same_magnitudes : (p q : List ℤ) (t u : List Term) (m n : ℕ) → m ≡ n → p ≡ q → t ≡ u → m + magnitudes_at p t ≡ n + magnitudes_at q u
+same_magnitudes p q t u m n e f g = cc
+
+wide_bound : (a b d : ℤ) (k : ℕ) → FitsSigned w128 a → FitsSigned w128 b → b ≡ d
+    → 2 ^ 127 ≤ 0 + unsigned_abs (to_z w128 (of_z w128 a)) * unsigned_abs (to_z w128 (of_z w128 b)) → 2 ^ 127 ≤ unsigned_abs a * unsigned_abs d + k
+wide_bound a b d k f g e h =
+    let wide = rw (to_z-of_z w128 a f, to_z-of_z w128 b g, e) at h in
+    omega arith
 
 pub returns-in_err-bound-clause-wide : goal.returns-in_err-bound-clause-wide
 returns-in_err-bound-clause-wide c =
     let rhs : FitsSigned w128 c.args.self.now.rhs = search rules in
     let den : FitsSigned w128 c.denominator.result = record { sfits = c.denominator.type_inv } in
-    let wide = rw (to_z-of_z w128 c.args.self.now.rhs rhs, to_z-of_z w128 c.denominator.result den, c.denominator.ensures.value) at c.in_err-bound.ensures.wide in
-    let p = err_from_is_err_and c.from_residual.result c.from_residual.ensures.1 in
-    rw (p.1) (more _ _ _ wide)
+    on_err c.from_residual.result _ (wide_bound c.args.self.now.rhs c.denominator.result c.args.x.now.d _ rhs den c.denominator.ensures.value c.in_err-bound.ensures.wide)
 
 pub returns-in_err-sum-clause-wide : goal.returns-in_err-sum-clause-wide
 returns-in_err-sum-clause-wide c =
     let rhs : FitsSigned w128 c.args.self.now.rhs = search rules in
     let den : FitsSigned w128 c.denominator.result = record { sfits = c.denominator.type_inv } in
     let magnitude = magnitude_is c.args.self.now.rhs c.denominator.result c.args.x.now.d _ rhs den c.denominator.ensures.value c.in_ok-bound.ensures.magnitude in
-    let wide = rw (magnitude, c.numerators.ensures, c.as_slice.ensures.value) at c.in_err-sum.ensures.wide in
-    let p = err_from_is_err_and c.from_residual-in_err-sum.result c.from_residual-in_err-sum.ensures.1 in
-    rw (p.1) wide
+    let same = same_magnitudes _ _ _ _ _ _ magnitude c.numerators.ensures c.as_slice.ensures.value in
+    on_err c.from_residual-in_err-sum.result _ (subst (λ n. 2 ^ 127 ≤ n) same c.in_err-sum.ensures.wide)
 
 pub overflow_sub-bound : goal.overflow_sub-bound
 overflow_sub-bound c =
@@ -69,7 +76,7 @@ overflow_sub-bound c =
     let magnitude = magnitude_is c.args.self.now.rhs c.denominator.result c.args.x.now.d _ rhs den c.denominator.ensures.value c.in_ok-bound.ensures.magnitude in
     let bound = product_is c.args.self.now.rhs c.denominator.result c.args.x.now.d _ rhs den c.denominator.ensures.value c.in_ok-bound.ensures.sum in
     let parts = apart c.args.self.now.rhs c.args.x.now.d c.in_ok-bound.bound.sum c.in_ok-sum.sum.sum _ _ bound magnitude c.in_ok-sum.ensures.within c.in_ok-sum.ensures.narrow in
-    rw (to_z-of_z w128 _ parts.first, to_z-of_z w128 _ parts.second) (fits_signed_from_abs w128 _ parts.narrow)
+    rw (difference_is _ _ _ _ parts) (fits_signed_from_abs w128 _ parts.narrow)
 
 pub new-requires-clause-narrow_num : goal.new-requires-clause-narrow_num
 new-requires-clause-narrow_num c =
@@ -78,7 +85,7 @@ new-requires-clause-narrow_num c =
     let magnitude = magnitude_is c.args.self.now.rhs c.denominator.result c.args.x.now.d _ rhs den c.denominator.ensures.value c.in_ok-bound.ensures.magnitude in
     let bound = product_is c.args.self.now.rhs c.denominator.result c.args.x.now.d _ rhs den c.denominator.ensures.value c.in_ok-bound.ensures.sum in
     let parts = apart c.args.self.now.rhs c.args.x.now.d c.in_ok-bound.bound.sum c.in_ok-sum.sum.sum _ _ bound magnitude c.in_ok-sum.ensures.within c.in_ok-sum.ensures.narrow in
-    rw (to_z-of_z w128 _ parts.first, to_z-of_z w128 _ parts.second, to_z-of_z w128 _ (fits_signed_from_abs w128 _ parts.narrow)) parts.narrow
+    rw (difference_is _ _ _ _ parts, to_z-of_z w128 _ (fits_signed_from_abs w128 _ parts.narrow)) parts.narrow
 
 pub new-requires-clause-positive : goal.new-requires-clause-positive
 new-requires-clause-positive c =
@@ -93,7 +100,7 @@ returns-clause-ok c =
     let bound = product_is c.args.self.now.rhs c.denominator.result c.args.x.now.d _ rhs den c.denominator.ensures.value c.in_ok-bound.ensures.sum in
     let parts = apart c.args.self.now.rhs c.args.x.now.d c.in_ok-bound.bound.sum c.in_ok-sum.sum.sum _ _ bound magnitude c.in_ok-sum.ensures.within c.in_ok-sum.ensures.narrow in
     let den : FitsSigned w128 c.denominator-2.result = record { sfits = c.denominator-2.type_inv } in
-    let sum = rw (c.numerators.ensures, c.as_slice.ensures.value) at c.in_ok-sum.ensures.sum in
+    let sum = c.in_ok-sum.ensures.sum ∙ same_sum _ _ _ _ c.numerators.ensures c.as_slice.ensures.value in
     lowest_is _ c.args.self.now.rhs c.args.x.now.d c.in_ok-bound.bound.sum c.in_ok-sum.sum.sum _ c.denominator-2.result parts c.new.ensures.value den c.denominator-2.ensures.value sum
 
 pub returns-clause-narrow : goal.returns-clause-narrow
@@ -101,5 +108,5 @@ returns-clause-narrow c =
     let rhs : FitsSigned w128 c.args.self.now.rhs = search rules in
     let den : FitsSigned w128 c.denominator.result = record { sfits = c.denominator.type_inv } in
     let magnitude = magnitude_is c.args.self.now.rhs c.denominator.result c.args.x.now.d _ rhs den c.denominator.ensures.value c.in_ok-bound.ensures.magnitude in
-    let sum = rw (magnitude, c.numerators.ensures, c.as_slice.ensures.value) at c.in_ok-sum.ensures.magnitude in
-    below _ _ sum c.in_ok-sum.ensures.narrow
+    let same = same_magnitudes _ _ _ _ _ _ magnitude c.numerators.ensures c.as_slice.ensures.value in
+    subst (λ n. n < 2 ^ 127) (c.in_ok-sum.ensures.magnitude ∙ same) c.in_ok-sum.ensures.narrow
