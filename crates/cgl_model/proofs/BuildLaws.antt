@@ -5,9 +5,10 @@ use Rattle.std.specs.Int.{w128}
 use Rattle.std.proofs.Math.Nat.{pow-le-pow_right}
 use Rattle.std.proofs.lemmas.Int.{fits_signed_from_abs, unsigned_abs-mul}
 use Rattle.std.proofs.lemmas.List.{map_more, take_all}
-use Rattle.std.proofs.lemmas.Bool.{le-leb, leb-false, or_parts, or_left, or_right}
+use Rattle.std.proofs.lemmas.Bool.{le-leb, leb-false, lt-leb, or_from, or_parts, or_left, or_right}
 use Rattle.std.specs.List.{filter, list_any}
 use Rattle.std.specs.Option.{IfSome}
+use Rattle.std.proofs.lemmas.List.Folds.{list_any-append}
 use Rattle.std.proofs.lemmas.List.Elements.{filter-append}
 use Rattle.std.proofs.Math.Seq.{drop-cons}
 use Rattle.cgl_num.specs.Gcd.{gcd, gcd_of}
@@ -87,6 +88,9 @@ narrow_rest : (terms : List Term) (rest : List ℤ) → list_any is_wide_number 
 narrow_rest [] rest e = e
 narrow_rest (t ∷ terms) rest e = narrow_rest terms rest (or_parts (is_wide_number t.1) _ e).1
 
+pub narrow_signed : (z : ℤ) → unsigned_abs z < 2 ^ 100 → FitsSigned w128 z
+narrow_signed z h = fits_signed_from_abs w128 z (omega arith)
+
 pub narrow_some : (range : Option ℤ) → list_any is_wide_number (option_to_list range) ≡ false → IfSome range (λ r. unsigned_abs r < 2 ^ 100)
 narrow_some None e = tt
 narrow_some (Some r) e = (narrow_first r [] e).0
@@ -101,7 +105,27 @@ pub record AreNarrowSides (rhs : ℤ) (range : Option ℤ) : Type 0 where
 pub narrow_sides : (n : RowNumbers) → list_any is_wide_number (row_numbers n) ≡ false → AreNarrowSides n.rhs n.range
 narrow_sides n e =
     let parts = narrow_first n.rhs (option_to_list n.range) (narrow_rest n.coeffs (n.rhs ∷ option_to_list n.range) e) in
-    record { right = parts.0; fits = fits_signed_from_abs w128 n.rhs (omega (arith, parts.0)); range_any = parts.1; range_each = narrow_some n.range parts.1 }
+    record { right = parts.0; fits = narrow_signed n.rhs parts.0; range_any = parts.1; range_each = narrow_some n.range parts.1 }
+
+-- ---- all numbers of a row
+
+pub wide_coeffs : (n : RowNumbers) → list_any is_wide_number (map (λ t. t.1) n.coeffs) ≡ true → list_any is_wide_number (row_numbers n) ≡ true
+wide_coeffs n h = list_any-append is_wide_number (map (λ t. t.1) n.coeffs) (n.rhs ∷ option_to_list n.range) ∙ or_left _ _ h
+
+wide_sides : (n : RowNumbers) → list_any is_wide_number (n.rhs ∷ option_to_list n.range) ≡ true → list_any is_wide_number (row_numbers n) ≡ true
+wide_sides n h = list_any-append is_wide_number (map (λ t. t.1) n.coeffs) (n.rhs ∷ option_to_list n.range) ∙ or_right _ _ h
+
+pub wide_right : (n : RowNumbers) → 2 ^ 100 ≤ unsigned_abs n.rhs → list_any is_wide_number (row_numbers n) ≡ true
+wide_right n h = wide_sides n (or_left _ _ (wide_number n.rhs h))
+
+pub wide_range : (n : RowNumbers) → list_any is_wide_number (option_to_list n.range) ≡ true → list_any is_wide_number (row_numbers n) ≡ true
+wide_range n h = wide_sides n (or_right _ _ h)
+
+pub narrow_numbers : (n : RowNumbers) → list_any is_wide_number (map (λ t. t.1) n.coeffs) ≡ false → unsigned_abs n.rhs < 2 ^ 100 → list_any is_wide_number (option_to_list n.range) ≡ false
+    → list_any is_wide_number (row_numbers n) ≡ false
+narrow_numbers n e h f =
+    let right = lt-leb (2 ^ 100) (unsigned_abs n.rhs) h in
+    list_any-append is_wide_number (map (λ t. t.1) n.coeffs) (n.rhs ∷ option_to_list n.range) ∙ or_from _ _ e (or_from _ _ right f)
 
 pub gcd_step : (terms : List Term) (rest : List ℤ) (i : ℕ) (t : Term) (d r : ℤ) → 0 < i → i ≤ length terms
     → d ≡ pos (gcd_of (map (λ t. t.1) (drop i terms) ++ rest)) → r ≡ pos (gcd (unsigned_abs (get_or terms (i - 1) t).1) (unsigned_abs d))

@@ -1,10 +1,10 @@
 -- The steps by which sides are listed.
-use Rattle.std.proofs.Common.{◌≡◌, ℕ, zero, suc, ℤ, pos, negsuc, ◌+◌, ◌-◌, ◌*◌, ◌^◌, ◌≤◌, ◌<◌, ap, refl, sym, ◌∙◌, subst, arith, lit<, List, [], ◌∷◌, ◌++◌, length, get_or, take}
+use Rattle.std.proofs.Common.{◌≡◌, ℕ, zero, suc, ℤ, pos, negsuc, ◌+◌, ◌-◌, ◌*◌, ◌^◌, ◌≤◌, ◌<◌, ap, refl, sym, ◌∙◌, subst, arith, lit<, List, [], ◌∷◌, ◌++◌, length, get_or, take, to_z, of_z}
 use Rattle.std.specs.Prelude.{◌*ℤ◌, unsigned_abs, FitsSigned, Option, Some}
 use Rattle.std.specs.Int.{w128}
 use Rattle.std.proofs.Math.IntN.{neg_ℤ}
 use Rattle.std.proofs.Math.Nat.{one-le-pow, pow-le-pow_right}
-use Rattle.std.proofs.lemmas.Int.{ints, unsigned_abs-mul}
+use Rattle.std.proofs.lemmas.Int.{ints, to_z-of_z, unsigned_abs-mul}
 use Rattle.std.proofs.lemmas.List.{map_more}
 use Rattle.cgl_num.specs.Decimal.{Decimal, IsDecimal, places, places_in, scaled, scaled_by, times_power}
 use Rattle.cgl_num.specs.Fraction.{Fraction, lowest}
@@ -90,6 +90,22 @@ bound_is f n e d is p q = is ∙ ap (λ z. lowest z e) p ∙ ap (λ z. lowest (s
 pub fits_narrow : (z : ℤ) → unsigned_abs z < 2 ^ 127 → FitsSigned w128 z
 fits_narrow (pos n) h = record { sfits = h }
 fits_narrow (negsuc n) h = record { sfits = omega (arith, ints, h) }
+
+-- the numerator, as the product of the mantissa with a power of ten
+pub record IsNumerator (d : Decimal) (m f : ℤ) : Type 0 where
+  pub is : to_z w128 (of_z w128 m) *ℤ to_z w128 (of_z w128 f) ≡ scaled (places d) d
+  pub narrow : unsigned_abs (scaled (places d) d) < 2 ^ 127
+
+pub numerator : (d : Decimal) (k p : ℕ) (m f : ℤ) → IsDecimal d → k ≡ places d → scaled k d ≡ d.m *ℤ pos (10 ^ p) → m ≡ d.m → f ≡ pos (10 ^ p)
+    → FitsSigned w128 m → FitsSigned w128 f → IsNumerator d m f
+numerator d k p m f valid e power same ten g h =
+    let whole = sym (ap (λ n. scaled n d) e) ∙ power in
+    let size = numerator_size d p valid whole in
+    let magnitude = ap unsigned_abs whole ∙ unsigned_abs-mul d.m (pos (10 ^ p)) in
+    record {
+      is = rw (to_z-of_z w128 m g, to_z-of_z w128 f h, same, ten) (sym whole);
+      narrow = omega (arith, magnitude, size);
+    }
 
 pub upper_push : (before after : List Side) (j : ℕ) (limit : Option Decimal) (d : Decimal) (terms : List Term) (y z : ℤ) → limit ≡ Some d
     → after ≡ before ++ record { place = Bound j Upper; ineq = record { terms = terms; rhs = z } } ∷ [] → terms ≡ (j, y) ∷ [] → y ≡ neg_ℤ (bound_of d).den → z ≡ neg_ℤ (bound_of d).num

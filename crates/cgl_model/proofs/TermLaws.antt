@@ -1,6 +1,6 @@
 -- Sums of terms at numbers for the columns.
 use Rattle.std.proofs.Common.{◌≡◌, ℕ, ℤ, pos, ◌+◌, ◌*◌, ◌<◌, List, ◌∷◌, length, get_or, drop, ap, sym, ◌∙◌, add-one}
-use Rattle.std.specs.Prelude.{◌+ℤ◌, ◌*ℤ◌, unsigned_abs, Result, Ok, Err, OnErr}
+use Rattle.std.specs.Prelude.{◌+ℤ◌, ◌*ℤ◌, unsigned_abs}
 use Rattle.std.proofs.Math.Seq.{drop-cons}
 use Rattle.std.proofs.lemmas.Option.{unwrap_or-slice_get}
 use Rattle.cgl_model.specs.Inequality.{Term, sum_at, magnitudes_at}
@@ -20,8 +20,3 @@ pub magnitudes_from : (p : List ℤ) (terms : List Term) (i : ℕ) (t : Term) �
 magnitudes_from p terms i t h =
     let u = get_or terms i t in
     ap (magnitudes_at p) (drop_more terms i t h) ∙ ap (λ z. unsigned_abs u.1 * unsigned_abs z + magnitudes_at p (drop (i + 1) terms)) (unwrap_or-slice_get p u.0 (pos 0))
-
--- what holds at each return
-pub on_err : {T E : Type 0} (r : Result T E) (P : Type 0) → P → OnErr r P
-on_err (Ok x) P p = tt
-on_err (Err e) P p = p

@@ -2,9 +2,9 @@ use Rattle.std.proofs.Common.{rules, ◌≡◌, ◌∙◌, subst, List, ℕ, ℤ
 use Rattle.std.specs.Prelude.{◌+ℤ◌, ◌*ℤ◌, ◌-ℤ◌, unsigned_abs, FitsSigned}
 use Rattle.std.specs.Int.{w128}
 use Rattle.std.proofs.lemmas.Int.{ints, fits_signed_from_abs, to_z-of_z, unsigned_abs-mul}
+use Rattle.std.proofs.lemmas.Result.{MatchResult-from_err}
 use Rattle.cgl_num.specs.Fraction.{Fraction, lowest}
 use Rattle.cgl_model.specs.Inequality.{Term, magnitudes_at, sum_at}
-use Rattle.cgl_model.proofs.TermLaws.{on_err}
 use Rattle.cgl_model.proofs.linear.Ineq.violation.Goals as goal
 
 product_is : (a b d s : ℤ) → FitsSigned w128 a → FitsSigned w128 b → b ≡ d → s ≡ pos 0 +ℤ to_z w128 (of_z w128 a) *ℤ to_z w128 (of_z w128 b) → s ≡ a *ℤ d
@@ -59,7 +59,7 @@ pub returns-in_err-bound-clause-wide : goal.returns-in_err-bound-clause-wide
 returns-in_err-bound-clause-wide c =
     let rhs : FitsSigned w128 c.args.self.now.rhs = search rules in
     let den : FitsSigned w128 c.denominator.result = record { sfits = c.denominator.type_inv } in
-    on_err c.from_residual.result _ (wide_bound c.args.self.now.rhs c.denominator.result c.args.x.now.d _ rhs den c.denominator.ensures.value c.in_err-bound.ensures.wide)
+    MatchResult-from_err c.from_residual.result _ _ c.from_residual.ensures.0 (λ e. wide_bound c.args.self.now.rhs c.denominator.result c.args.x.now.d _ rhs den c.denominator.ensures.value c.in_err-bound.ensures.wide)
 
 pub returns-in_err-sum-clause-wide : goal.returns-in_err-sum-clause-wide
 returns-in_err-sum-clause-wide c =
@@ -67,7 +67,7 @@ returns-in_err-sum-clause-wide c =
     let den : FitsSigned w128 c.denominator.result = record { sfits = c.denominator.type_inv } in
     let magnitude = magnitude_is c.args.self.now.rhs c.denominator.result c.args.x.now.d _ rhs den c.denominator.ensures.value c.in_ok-bound.ensures.magnitude in
     let same = same_magnitudes _ _ _ _ _ _ magnitude c.numerators.ensures c.as_slice.ensures.value in
-    on_err c.from_residual-in_err-sum.result _ (subst (λ n. 2 ^ 127 ≤ n) same c.in_err-sum.ensures.wide)
+    MatchResult-from_err c.from_residual-in_err-sum.result _ _ c.from_residual-in_err-sum.ensures.0 (λ e. subst (λ n. 2 ^ 127 ≤ n) same c.in_err-sum.ensures.wide)
 
 pub overflow_sub-bound : goal.overflow_sub-bound
 overflow_sub-bound c =
