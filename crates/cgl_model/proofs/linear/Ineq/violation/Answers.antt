@@ -55,6 +55,17 @@ wide_bound a b d k f g e h =
     let wide = rw (to_z-of_z w128 a f, to_z-of_z w128 b g, e) at h in
     omega arith
 
+pub returns-clause-ok : goal.returns-clause-ok
+returns-clause-ok c =
+    let rhs : FitsSigned w128 c.args.self.now.rhs = search rules in
+    let den : FitsSigned w128 c.denominator.result = record { sfits = c.denominator.type_inv } in
+    let magnitude = magnitude_is c.args.self.now.rhs c.denominator.result c.args.x.now.d _ rhs den c.denominator.ensures.value c.in_ok-bound.ensures.magnitude in
+    let bound = product_is c.args.self.now.rhs c.denominator.result c.args.x.now.d _ rhs den c.denominator.ensures.value c.in_ok-bound.ensures.sum in
+    let parts = apart c.args.self.now.rhs c.args.x.now.d c.in_ok-bound.bound.sum c.in_ok-sum.sum.sum _ _ bound magnitude c.in_ok-sum.ensures.within c.in_ok-sum.ensures.narrow in
+    let den : FitsSigned w128 c.denominator-2.result = record { sfits = c.denominator-2.type_inv } in
+    let sum = c.in_ok-sum.ensures.sum ∙ same_sum _ _ _ _ c.numerators.ensures c.as_slice.ensures.value in
+    lowest_is _ c.args.self.now.rhs c.args.x.now.d c.in_ok-bound.bound.sum c.in_ok-sum.sum.sum _ c.denominator-2.result parts c.new.ensures.value den c.denominator-2.ensures.value sum
+
 pub returns-in_err-bound-clause-wide : goal.returns-in_err-bound-clause-wide
 returns-in_err-bound-clause-wide c =
     let rhs : FitsSigned w128 c.args.self.now.rhs = search rules in
@@ -91,17 +102,6 @@ pub new-requires-clause-positive : goal.new-requires-clause-positive
 new-requires-clause-positive c =
     let den : FitsSigned w128 c.denominator-2.result = record { sfits = c.denominator-2.type_inv } in
     rw (to_z-of_z w128 c.denominator-2.result den, c.denominator-2.ensures.value) c.denominator-2.ensures.positive
-
-pub returns-clause-ok : goal.returns-clause-ok
-returns-clause-ok c =
-    let rhs : FitsSigned w128 c.args.self.now.rhs = search rules in
-    let den : FitsSigned w128 c.denominator.result = record { sfits = c.denominator.type_inv } in
-    let magnitude = magnitude_is c.args.self.now.rhs c.denominator.result c.args.x.now.d _ rhs den c.denominator.ensures.value c.in_ok-bound.ensures.magnitude in
-    let bound = product_is c.args.self.now.rhs c.denominator.result c.args.x.now.d _ rhs den c.denominator.ensures.value c.in_ok-bound.ensures.sum in
-    let parts = apart c.args.self.now.rhs c.args.x.now.d c.in_ok-bound.bound.sum c.in_ok-sum.sum.sum _ _ bound magnitude c.in_ok-sum.ensures.within c.in_ok-sum.ensures.narrow in
-    let den : FitsSigned w128 c.denominator-2.result = record { sfits = c.denominator-2.type_inv } in
-    let sum = c.in_ok-sum.ensures.sum ∙ same_sum _ _ _ _ c.numerators.ensures c.as_slice.ensures.value in
-    lowest_is _ c.args.self.now.rhs c.args.x.now.d c.in_ok-bound.bound.sum c.in_ok-sum.sum.sum _ c.denominator-2.result parts c.new.ensures.value den c.denominator-2.ensures.value sum
 
 pub returns-clause-narrow : goal.returns-clause-narrow
 returns-clause-narrow c =
