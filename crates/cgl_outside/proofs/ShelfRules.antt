@@ -1,5 +1,5 @@
 -- The same laws in the form that goals have, under names that a tactic attribute can cite.
-use Rattle.std.proofs.Common.{zero, suc, [], ◌∷◌, ◌≡◌, List, ℕ, ◌++◌, take, ◌≤◌, ◌<◌, drop, ◌+◌, ◌-◌, ◌∙◌, ap, sym, subst, Some, None, IsSome, Option, refl, length, arith, length-take}
+use Rattle.std.proofs.Common.{zero, suc, [], ◌∷◌, ◌≡◌, List, ℕ, ◌++◌, take, ◌≤◌, drop, ◌+◌, ◌-◌, ◌∙◌, ap, sym, subst, None, IsSome, refl, length, arith}
 use Rattle.std.proofs.lemmas.List.{take_all}
 use Rattle.std.proofs.Math.Seq.{take-add}
 use Rattle.cgl_outside.specs.Shelf.{Held, file_of, with_file, with_more, Lacks, IsPiece}

@@ -9,3 +9,4 @@ pub mod Sink
 pub mod SureShelf
 pub mod SureSink
 pub mod Means
+pub mod Whole

@@ -23,7 +23,7 @@ pub struct Fail {
 fn is_entry(fail: &Fail, call: Call, earlier: u64) -> bool
     ensures { result ≡ is_for call (earlier + 1) fail.now }
 {
-    fail.call == call && fail.nth.checked_sub(1) == Some(earlier)
+    fail.call == call && fail.nth > 0 && fail.nth - 1 == earlier
 }
 
 /// How many bytes the first entry for a call keeps, where there is one. `earlier` calls of its kind
@@ -31,10 +31,12 @@ fn is_entry(fail: &Fail, call: Call, earlier: u64) -> bool
 pub(crate) fn listed(fails: &[Fail], call: Call, earlier: u64) -> Option<u64>
     ensures { result ≡ listed_keep fails.now call (earlier + 1) }
 {
-    fails
-        .iter()
-        .find(|fail| is_entry(fail, call, earlier))
-        .map(|fail| fail.keep)
+    for fail in fails {
+        if is_entry(fail, call, earlier) {
+            return Some(fail.keep);
+        }
+    }
+    None
 }
 
 /// The first bytes of a piece, so many or all.

@@ -89,13 +89,7 @@ impl MemShelf {
         ensures ok { OnOk result (self.new ≡ record self.old { files = map.insert self.old.files name.now bytes.now }) }
         ensures err { OnErr result (self.new ≡ self.old) }
     {
-        let Ok(copy) = Vec::from_slice(self.alloc, bytes) else {
-            return Err(Memory);
-        };
-        match put(self.alloc, &mut self.files, name, copy) {
-            Ok(()) => Ok(()),
-            Err(_) => Err(Memory),
-        }
+        put(self.alloc, &mut self.files, name, bytes)
     }
 
     /// The bytes under a name. None where there is no such file.
@@ -159,7 +153,7 @@ impl MemShelf {
         ensures ok { OnOk result (self.new ≡ record self.old { files = map.insert self.old.files name.now [] }) }
         ensures err { OnErr result (self.new ≡ with_write_refused self.old) }
     {
-        match put(self.alloc, &mut self.files, name, Vec::new(self.alloc)) {
+        match put(self.alloc, &mut self.files, name, &[]) {
             Ok(()) => Ok(()),
             Err(_) => {
                 self.refuse_write();

@@ -34,10 +34,12 @@ impl Model for MemSink {
 fn listed_put(fails: &[(u64, u64)], earlier: u64) -> Option<u64>
     ensures { result ≡ put_keep fails.now (earlier + 1) }
 {
-    fails
-        .iter()
-        .find(|(nth, _)| nth.checked_sub(1) == Some(earlier))
-        .map(|&(_, keep)| keep)
+    for &(nth, keep) in fails {
+        if nth > 0 && nth - 1 == earlier {
+            return Some(keep);
+        }
+    }
+    None
 }
 
 impl MemSink {

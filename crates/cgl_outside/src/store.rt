@@ -5,23 +5,29 @@ ghost use Rattle.std.specs.FinMap as map;
 ghost use Rattle.cgl_outside.specs.Shelf.{IsPiece, with_more};
 ghost use Rattle.cgl_outside.specs.Files.{files_of};
 
+use cgl_num::Memory;
 use std::alloc::{AllocError, Global};
 use std::collections::BTreeMap;
 
-/// Gives a name these bytes.
+/// Gives a name a copy of these bytes.
 pub(crate) fn put(
     alloc: Global,
     files: &mut BTreeMap<String, Vec<u8>>,
     name: &str,
-    bytes: Vec<u8>,
-) -> Result<(), AllocError>
-    ensures ok { OnOk result (files_of files.new ≡ map.insert (files_of files.old) name.now bytes.items) }
+    bytes: &[u8],
+) -> Result<(), Memory>
+    ensures ok { OnOk result (files_of files.new ≡ map.insert (files_of files.old) name.now bytes.now) }
     ensures err { OnErr result (files_of files.new ≡ files_of files.old) }
 {
-    let key = String::from_str(alloc, name)?;
-    match files.insert(key, bytes) {
+    let Ok(copy) = Vec::from_slice(alloc, bytes) else {
+        return Err(Memory);
+    };
+    let Ok(key) = String::from_str(alloc, name) else {
+        return Err(Memory);
+    };
+    match files.insert(key, copy) {
         Ok(_) => Ok(()),
-        Err(_) => Err(AllocError),
+        Err(_) => Err(Memory),
     }
 }
 

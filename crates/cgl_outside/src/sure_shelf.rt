@@ -54,13 +54,7 @@ impl SureShelf {
         ensures ok { OnOk result (self.new ≡ record self.old { files = map.insert self.old.files name.now bytes.now }) }
         ensures err { OnErr result (self.new ≡ self.old) }
     {
-        let Ok(copy) = Vec::from_slice(self.alloc, bytes) else {
-            return Err(Memory);
-        };
-        match put(self.alloc, &mut self.files, name, copy) {
-            Ok(()) => Ok(()),
-            Err(_) => Err(Memory),
-        }
+        put(self.alloc, &mut self.files, name, bytes)
     }
 
     /// The bytes under a name. None where there is no such file.
@@ -112,7 +106,7 @@ impl Shelf for SureShelf {
         ensures refused { OnErr result (self.new ≡ with_refusal self.old) }
         ensures writes { Counts self.old.refused self.new.refused result ⊥ }
     {
-        match put(self.alloc, &mut self.files, name, Vec::new(self.alloc)) {
+        match put(self.alloc, &mut self.files, name, &[]) {
             Ok(()) => Ok(()),
             Err(_) => {
                 self.refused = self.refused.saturating_add(1);

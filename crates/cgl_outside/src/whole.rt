@@ -1,20 +1,13 @@
 //! Whole files over any shelf, in pieces.
-ghost use Rattle.std.specs.Prelude.{◌≡◌, ◌⊎◌, ◌↔◌, ℕ, List, ◌+◌, ◌<◌, ◌≤◌, IfOk, IfErr, OnOk, OnErr, IsSome, IsTrue, IsErrOf, Some, false, length, take, vec_len};
+ghost use Rattle.std.specs.Prelude.{◌≡◌, ◌⊎◌, ℕ, List, ◌+◌, ◌<◌, ◌≤◌, IfOk, OnOk, OnErr, IsSome, IsErrOf, Some, length, take};
 ghost use Rattle.cgl_outside.specs.Shelf.{file_of, with_file, Lacks, Rose};
+ghost use Rattle.cgl_outside.specs.Whole.{OneMore, Fetched};
 
 use crate::{Failed, FetchError, Shelf};
 use std::alloc::Global;
 
 /// The bytes of one read or append at most.
 const PIECE: usize = 65536;
-
-/// A buffer for one piece.
-fn piece_buffer(alloc: Global) -> Result<Vec<u8>, FetchError>
-    ensures buf { IfOk result (λ buf. 0 < vec_len buf) }
-    ensures err { IfErr result (λ e. e ≡ FetchError.Memory) }
-{
-    vec![in alloc; 0u8; PIECE].map_err(|_| FetchError::Memory)
-}
 
 /// Reads the next piece of a file behind those that were read. Says whether there was one.
 fn read_more<S: Shelf>(
@@ -26,17 +19,8 @@ fn read_more<S: Shelf>(
     requires { 0 < length buf.old }
     ensures held { S.held shelf.new ≡ S.held shelf.old }
     ensures writes { S.failed_writes shelf.new ≡ S.failed_writes shelf.old }
-    ensures more { IfOk result (λ more. IsTrue more ↔ (length bytes.old.items < length bytes.new.items)) }
-    ensures front { OnOk result ((file : List ℕ) → file_of (S.held shelf.old) name.now ≡ Some file
-        → bytes.old.items ≡ take (length bytes.old.items) file → bytes.new.items ≡ take (length bytes.new.items) file) }
-    ensures whole { IfOk result (λ more. (file : List ℕ) → file_of (S.held shelf.old) name.now ≡ Some file
-        → more ≡ false → length file ≤ length bytes.new.items) }
-    ensures found { OnOk result (IsSome (S.held shelf.old) → IsSome (file_of (S.held shelf.old) name.now)) }
-    ensures reads { IsErrOf result FetchError.ReadFault ⊎ (S.failed_reads shelf.new ≡ S.failed_reads shelf.old) }
-    ensures later { S.failed_reads shelf.old ≤ S.failed_reads shelf.new }
-    ensures excused { Lacks (S.held shelf.old) name.now → S.failed_reads shelf.new ≡ S.failed_reads shelf.old }
-    ensures read_fault { IsErrOf result FetchError.ReadFault
-        → Rose (S.failed_reads shelf.old) (S.failed_reads shelf.new) ⊎ Lacks (S.held shelf.old) name.now }
+    ensures more { IfOk result (λ more. OneMore (S.held shelf.old) name.now bytes.old.items bytes.new.items more) }
+    ensures reads { Fetched (S.failed_reads shelf.old) (S.failed_reads shelf.new) result (Lacks (S.held shelf.old) name.now) }
     ensures within { OnOk result (length bytes.new.items ≤ length bytes.old.items + length buf.old) }
 {
     let Ok(count) = shelf.read_at(name, bytes.len() as u64, buf) else {
@@ -72,12 +56,16 @@ pub fn read_front<S: Shelf>(
     ensures held { S.held shelf.new ≡ S.held shelf.old }
     ensures writes { S.failed_writes shelf.new ≡ S.failed_writes shelf.old }
 {
-    let mut buf = piece_buffer(alloc)?;
+    let Ok(mut buf) = vec![in alloc; 0u8; PIECE] else {
+        return Err(FetchError::Memory);
+    };
     let mut bytes = Vec::new(alloc);
     'pieces: while bytes.len() < most {
         let room = buf.len().min(most - bytes.len());
-        if !read_more(shelf, name, &mut buf[..room], &mut bytes)? {
-            return Ok(bytes);
+        match read_more(shelf, name, &mut buf[..room], &mut bytes) {
+            Ok(true) => {}
+            Ok(false) => return Ok(bytes),
+            Err(error) => return Err(error),
         }
     }
     Ok(bytes)

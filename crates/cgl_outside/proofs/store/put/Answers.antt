@@ -7,12 +7,14 @@ use Rattle.cgl_outside.proofs.FilesLaws.{files_written}
 use Rattle.cgl_outside.proofs.FilesRules.{same_files}
 use Rattle.cgl_outside.proofs.store.put.Goals as goal
 
-pub returns-in-Ok-clause-ok : goal.returns-in-Ok-clause-ok
-returns-in-Ok-clause-ok c =
+pub returns-in-Ok-insert-clause-ok : goal.returns-in-Ok-insert-clause-ok
+returns-in-Ok-insert-clause-ok c =
     let m = c.args.files.now in
-    let key = string_bytes c.in_ok-key.key in
-    files_written m c.insert.new.self key c.args.bytes (λ q. btree_map_updates_text key m c.insert.new.self (Some c.args.bytes) c.in-Ok.ensures.updates q)
-    ∙ ap (λ name. insert (files_of m) name c.args.bytes.items) c.in_ok-key.ensures.ok
+    let copy = c.in-Ok.copy in
+    let key = string_bytes c.in-Ok-from_str.key in
+    files_written m c.insert.new.self key copy (λ q. btree_map_updates_text key m c.insert.new.self (Some copy) c.in-Ok-insert.ensures.updates q)
+    ∙ ap (λ name. insert (files_of m) name copy.items) c.in-Ok-from_str.ensures.ok
+    ∙ ap (insert (files_of m) c.args.name.now) c.in-Ok.ensures.items
 
 pub returns-clause-err : goal.returns-clause-err
 returns-clause-err c = same_files c.args.files.now c.insert.new.self c.in-Err.ensures.err

@@ -1,9 +1,14 @@
-use Rattle.std.proofs.Common.{arith, ◌≤◌, inr}
+use Rattle.std.proofs.Common.{arith, ◌≤◌, ◌∙◌, ◌⊎◌, inl, inr}
 use Rattle.cgl_outside.proofs.ShelfRules.{not_lacking, more_written, part_written}
 use Rattle.cgl_outside.proofs.whole.write_whole.Goals as goal
 
+without : {A B : Type 0} → (B → ⊥) → A ⊎ B → A
+without never (inl a) = a
+without never (inr b) = absurd (never b)
+
 pub returns-in_default-append-clause-fault : goal.returns-in_default-append-clause-fault
-returns-in_default-append-clause-fault g c = grind (arith, not_lacking _ _ _ _ c.pieces.invariant.held, c.in_default-append.ensures.writes.failed)
+returns-in_default-append-clause-fault g c =
+    let before = c.pieces.invariant in rw before.writes at (without (not_lacking _ _ _ _ before.held) c.in_default-append.ensures.writes.failed)
 
 pub pieces-preserved : goal.pieces-preserved
 pieces-preserved g c =
@@ -11,8 +16,8 @@ pieces-preserved g c =
     record {
       place = omega (arith, c.min-end.ensures);
       held = more_written _ _ _ _ _ _ _ le c.pieces.invariant.held c.in-Ok-append.ensures.ok;
-      writes = grind (arith, c.in-Ok-append.ensures.writes.ok);
-      reads = grind arith;
+      writes = c.in-Ok-append.ensures.writes.ok ∙ c.pieces.invariant.writes;
+      reads = c.in-Ok-append.ensures.reads ∙ c.pieces.invariant.reads;
     }
 
 pub returns-in_default-append-clause-stands : goal.returns-in_default-append-clause-stands
