@@ -39,21 +39,6 @@ fn split_line(bytes: &[u8]) -> (&[u8], &[u8])
     }
 }
 
-fn split_lines(alloc: Global, bytes: &[u8]) -> Result<Vec<&[u8]>, Memory>
-    ensures { IfOk result (λ found. words found.items ≡ lines_of bytes.now) }
-{
-    let mut found = Vec::new(alloc);
-    let mut rest = bytes;
-    'lines: while !rest.is_empty() {
-        let (first, others) = split_line(rest);
-        let Ok(()) = found.push(first) else {
-            return Err(Memory);
-        };
-        rest = others;
-    }
-    Ok(found)
-}
-
 /// The lines of a text, in order and without their LF. Contracts see them as a list of lines.
 #[derive(Drop)]
 pub struct Lines<'a> {
@@ -78,7 +63,15 @@ impl<'a> Lines<'a> {
     pub fn of(alloc: Global, bytes: &'a [u8]) -> Result<Lines<'a>, Memory>
         ensures { IfOk result (λ found. found ≡ lines_of bytes.now) }
     {
-        let lines = split_lines(alloc, bytes)?;
+        let mut lines = Vec::new(alloc);
+        let mut rest = bytes;
+        'lines: while !rest.is_empty() {
+            let (first, others) = split_line(rest);
+            let Ok(()) = lines.push(first) else {
+                return Err(Memory);
+            };
+            rest = others;
+        }
         Ok(Lines { lines })
     }
 
