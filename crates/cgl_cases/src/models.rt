@@ -1,113 +1,120 @@
-//! The sides and the forms of a model, and violations.
-ghost use Rattle.std.specs.Prelude.{◌≡◌, ◌<ℤ◌, ◌∷◌, [], length, pos, IfOk};
+//! Cases of decks: the sides of a model, names for cuts, and canonical texts.
+ghost use Rattle.std.specs.Prelude.{IfOk, IfSome};
 ghost use Rattle.cgl_model.specs.Valid.{IsValid};
 
-use cgl_model::{End, Forms, Ineq, Model, Place, Point, Seq, Terms};
-use cgl_mps::deck_of;
-use std::alloc::Global;
-use std::test::Fail;
+use crate::bytes::{bytes_of, put_text};
+use cgl_deck::{cut_names, deck_len, deck_text, write_deck};
+use cgl_model::{End, Forms, Model, Place, Side};
+use cgl_mps::{DeckError, deck_of};
+use cgl_outside::SureShelf;
+use std::alloc::{AllocError, Global};
 
-/// `0.5x + 0.25y <= 1.75`, `1e30x <= 1`, `1e30x + 0.1y <= 1`, `x` from 3 to 5, with `x >= 0.5` and `y >= 0`.
-fn model(alloc: Global) -> Result<Model, Fail>
-    ensures { IfOk result IsValid }
+fn put_side(out: &mut String, side: &Side) -> Result<(), AllocError> {
+    let terms = side.ineq.terms.as_slice();
+    write!(out, "\n  {:?}: {terms:?} >= {}", side.place, side.ineq.rhs)
+}
+
+fn put_row(out: &mut String, forms: &Forms, row: u32) -> Result<(), AllocError> {
+    let lower = forms.find(Place::Row(row, End::Lower));
+    let upper = forms.find(Place::Row(row, End::Upper));
+    let wide = forms.wide(row);
+    write!(
+        out,
+        "\n  row {row}: lower {lower:?} upper {upper:?} wide {wide}"
+    )?;
+    match forms.row_form(row) {
+        Some(form) => write!(out, " form {:?} to {:?}", form.lo, form.up),
+        None => Ok(()),
+    }
+}
+
+fn put_column(out: &mut String, forms: &Forms, column: u32) -> Result<(), AllocError> {
+    let lower = forms.find(Place::Bound(column, End::Lower));
+    let upper = forms.find(Place::Bound(column, End::Upper));
+    write!(out, "\n  column {column}: lower {lower:?} upper {upper:?}")
+}
+
+/// Tells each side, and then each row and column, and one of each that is not there.
+fn put_forms(out: &mut String, forms: &Forms, rows: u32, columns: u32) -> Result<(), AllocError> {
+    for side in forms.sides() {
+        put_side(out, side)?;
+    }
+    for row in 0..=rows {
+        put_row(out, forms, row)?;
+    }
+    for column in 0..=columns {
+        put_column(out, forms, column)?;
+    }
+    Ok(())
+}
+
+fn tell_sides(alloc: Global, out: &mut String, model: &Model) -> Result<(), AllocError>
+    requires { IsValid model.now }
 {
-    Ok(deck_of(
-        alloc,
-        b"ROWS\n L A\n L B\n L C\n E D\nCOLUMNS\n x A 0.5 B 1e30\n x C 1e30 D 1\n y A 0.25 C 0.1\nRHS\n S A 1.75 B 1\n S C 1 D 5\nRANGES\n S D -2\nBOUNDS\n LO B x 0.5\nENDATA\n",
-    )?)
+    match Forms::build(alloc, model) {
+        Ok(forms) => put_forms(
+            out,
+            &forms,
+            model.rows.as_slice().len() as u32,
+            model.cols.as_slice().len() as u32,
+        ),
+        Err(_) => Err(AllocError),
+    }
 }
 
-#[test]
-fn forms_of_a_model(rt: HostRuntime) -> Result<(), Fail> {
-    let m = model(rt.alloc())?;
-    let forms = Forms::build(rt.alloc(), &m)?;
-    let power = 10i128.pow(30);
-    let sides: [(Place, &[(u32, i128)], i128); 6] = [
-        (Place::Row(0, End::Upper), &[(0, -2), (1, -1)], -7),
-        (Place::Row(1, End::Upper), &[(0, -power)], -1),
-        (Place::Row(3, End::Lower), &[(0, 1)], 3),
-        (Place::Row(3, End::Upper), &[(0, -1)], -5),
-        (Place::Bound(0, End::Lower), &[(0, 2)], 1),
-        (Place::Bound(1, End::Lower), &[(1, 1)], 0),
-    ];
-    assert_eq!(rt; forms.sides().len(), sides.len());
-    for (side, (place, terms, rhs)) in forms.sides().iter().zip(sides.iter()) {
-        assert!(rt; side.place == *place);
-        assert_eq!(rt; side.ineq.terms.as_slice(), *terms);
-        assert_eq!(rt; side.ineq.rhs, *rhs);
+/// Tells the names of three cuts.
+fn tell_names(alloc: Global, out: &mut String, model: &Model) -> Result<(), AllocError> {
+    let Ok(names) = cut_names(alloc, model, 3) else {
+        return Err(AllocError);
+    };
+    for name in names.as_slice() {
+        out.push_str("\n  ")?;
+        put_text(out, name.as_slice())?;
     }
     Ok(())
 }
 
-#[test]
-fn places_have_sides(rt: HostRuntime) -> Result<(), Fail> {
-    let m = model(rt.alloc())?;
-    let forms = Forms::build(rt.alloc(), &m)?;
-    let found = [
-        (Place::Row(0, End::Upper), Some(0u32)),
-        (Place::Row(0, End::Lower), None),
-        (Place::Row(2, End::Upper), None),
-        (Place::Row(9, End::Upper), None),
-        (Place::Bound(0, End::Lower), Some(4u32)),
-        (Place::Bound(0, End::Upper), None),
-    ];
-    for (place, number) in found {
-        assert!(rt; forms.find(place) == number);
-    }
-    Ok(())
-}
-
-#[test]
-fn wide_rows_have_no_form(rt: HostRuntime) -> Result<(), Fail> {
-    let m = model(rt.alloc())?;
-    let forms = Forms::build(rt.alloc(), &m)?;
-    assert!(rt; !forms.wide(1));
-    assert!(rt; forms.wide(2));
-    assert!(rt; !forms.wide(9));
-    assert!(rt; forms.row_form(2).is_none());
-    match forms.row_form(3) {
-        Some(form) => {
-            assert!(rt; form.lo == Some(3));
-            assert!(rt; form.up == Some(5));
-            assert_eq!(rt; form.rhs, 5);
-        }
-        None => assert!(rt; false),
-    }
-    Ok(())
-}
-
-/// `2x >= 1`.
-fn half(alloc: Global) -> Result<Ineq, Fail>
-    ensures { IfOk result (λ c. c.terms ≡ (0, pos 2) ∷ []) }
+/// Whether the model is written as this text.
+fn is_written_as(alloc: Global, model: &Model, text: &[u8]) -> bool
+    requires { IsValid model.now }
 {
-    let mut terms = Terms::new(alloc);
-    terms.push((0, 2))?;
-    Ok(Ineq { terms, rhs: 1 })
+    let mut shelf = SureShelf::new(alloc);
+    let is_written = write_deck(alloc, model, &mut shelf, "o").is_ok();
+    is_written && shelf.file("o") == Some(text) && deck_len(model) == text.len() as u64
 }
 
-fn point(alloc: Global, x: i128, d: i128) -> Result<Point, Fail>
-    requires { pos 0 <ℤ d }
-    ensures { IfOk result (λ p. length p.p ≡ 1) }
+/// Tells the canonical text, where it is what is written to a file.
+fn tell_text(alloc: Global, out: &mut String, model: &Model) -> Result<(), AllocError>
+    requires { IsValid model.now }
 {
-    let mut p = Seq::new(alloc);
-    p.push(x)?;
-    Ok(Point::new(p, d))
+    let Ok(text) = deck_text(alloc, model) else {
+        return Err(AllocError);
+    };
+    if !is_written_as(alloc, model, &text) {
+        return Ok(());
+    }
+    out.push_str("\n  ")?;
+    put_text(out, &text)
 }
 
-#[test]
-fn violations(rt: HostRuntime) -> Result<(), Fail> {
-    let c = half(rt.alloc())?;
-    for (x, d, num, den) in [(1, 4, 1, 2), (3, 4, -1, 2), (0, 5, 1, 1)] {
-        let p = point(rt.alloc(), x, d.max(1))?;
-        match c.violation(&p) {
-            Ok(violation) => {
-                assert_eq!(rt; violation.num(), num);
-                assert_eq!(rt; violation.den(), den);
-            }
-            Err(_) => assert!(rt; false),
-        }
+fn tell_model(alloc: Global, out: &mut String, word: &str, model: &Model) -> Result<(), AllocError>
+    requires { IsValid model.now }
+{
+    match word {
+        "sides" => tell_sides(alloc, out, model),
+        "names" => tell_names(alloc, out, model),
+        _ => tell_text(alloc, out, model),
     }
-    let p = point(rt.alloc(), i128::MAX, 1)?;
-    assert!(rt; c.violation(&p).is_err());
-    Ok(())
+}
+
+pub fn tell(alloc: Global, out: &mut String, word: &str, deck: &str) -> Result<(), AllocError> {
+    let deck = bytes_of(alloc, deck)?;
+    if deck.len() > 1 << 20 {
+        return Ok(());
+    }
+    match deck_of(alloc, &deck) {
+        Ok(model) => tell_model(alloc, out, word, &model),
+        Err(DeckError::Fault { line, kind }) => write!(out, "\n  line {line} kind {kind}"),
+        Err(DeckError::Memory) => Err(AllocError),
+    }
 }
