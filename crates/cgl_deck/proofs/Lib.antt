@@ -1,4 +1,7 @@
 pub mod ListLaws
+pub mod TurnLaws
+pub mod ListTurnLaws
+pub mod CutListLaws
 pub mod TermLaws
 pub mod NameLaws
 pub mod EntryLaws

@@ -3,6 +3,7 @@ ghost use Rattle.std.specs.List.{list_all};
 ghost use Rattle.cgl_num.specs.Decimal.{decimal_of};
 ghost use Rattle.cgl_model.specs.Rising.{IsRising};
 ghost use Rattle.cgl_model.specs.RowEntries.{onto_entries};
+ghost use Rattle.cgl_deck.specs.CutNames.{cut_names};
 ghost use Rattle.cgl_deck.specs.Extended.{AreRising, IsTooMany, coefficient_at, cut_entries, cut_row, decimal_or_zero, extended, extended_columns_from, is_decimal, is_known, is_within_sizes, term_count, with_rows};
 
 use crate::names::{copied_name, cut_names};
@@ -161,11 +162,17 @@ fn decimal(n: i128) -> Dec
     Dec::whole(n).unwrap()
 }
 
+fn add_row_copy(alloc: Global, copies: &mut Seq<Row>, row: &Row) -> Result<(), Memory>
+    ensures { OnOk result (copies.new ≡ copies.old ++ row.now ∷ []) }
+{
+    copies.push(copied_row(alloc, row)?)
+}
+
 fn add_row_copies(alloc: Global, copies: &mut Seq<Row>, rows: &[Row]) -> Result<(), Memory>
     ensures { OnOk result (copies.new ≡ copies.old ++ rows.now) }
 {
     for row in rows {
-        copies.push(copied_row(alloc, row)?)?;
+        add_row_copy(alloc, copies, row)?;
     }
     Ok(())
 }
@@ -182,6 +189,13 @@ fn row_of_cut(alloc: Global, name: &[u8], cut: &Ineq) -> Result<Row, Memory>
     })
 }
 
+fn add_cut_row(alloc: Global, rows: &mut Seq<Row>, name: &[u8], cut: &Ineq) -> Result<(), Memory>
+    requires { IsTrue (is_decimal cut.now) }
+    ensures { OnOk result (rows.new ≡ rows.old ++ cut_row (name.now, cut.now) ∷ []) }
+{
+    rows.push(row_of_cut(alloc, name, cut)?)
+}
+
 fn add_cut_rows(
     alloc: Global,
     rows: &mut Seq<Row>,
@@ -192,9 +206,29 @@ fn add_cut_rows(
     ensures { OnOk result (rows.new ≡ rows.old ++ map cut_row (zip names.now cuts.now)) }
 {
     for (name, cut) in names.iter().zip(cuts) {
-        rows.push(row_of_cut(alloc, name.as_slice(), cut)?)?;
+        add_cut_row(alloc, rows, name.as_slice(), cut)?;
     }
     Ok(())
+}
+
+/// The model's rows, and one for each cut behind them.
+fn all_rows(alloc: Global, model: &Model, names: &[Name], cuts: &[Ineq]) -> Result<Seq<Row>, Memory>
+    requires { IsTrue (list_all is_decimal cuts.now) }
+    ensures { IfOk result (λ rows. rows ≡ model.now.rows ++ map cut_row (zip names.now cuts.now)) }
+{
+    let mut rows = Seq::new(alloc);
+    add_row_copies(alloc, &mut rows, model.rows.as_slice())?;
+    add_cut_rows(alloc, &mut rows, names, cuts)?;
+    Ok(rows)
+}
+
+fn named_rows(alloc: Global, model: &Model, cuts: &[Ineq]) -> Result<Seq<Row>, Memory>
+    requires decimal { IsTrue (list_all is_decimal cuts.now) }
+    requires few { length cuts.now < 2 ^ 32 }
+    ensures { IfOk result (λ rows. rows ≡ model.now.rows ++ map cut_row (zip (cut_names model.now (length cuts.now)) cuts.now)) }
+{
+    let names = cut_names(alloc, model, cuts.len() as u32)?;
+    all_rows(alloc, model, names.as_slice(), cuts)
 }
 
 // ---- columns
@@ -256,6 +290,17 @@ fn lists_of_cuts(
     Ok(lists)
 }
 
+fn add_longer(
+    alloc: Global,
+    columns: &mut Seq<Column>,
+    column: &Column,
+    more: &[(u32, Dec)],
+) -> Result<(), Memory>
+    ensures { OnOk result (columns.new ≡ columns.old ++ record column.now { entries = column.now.entries ++ more.now } ∷ []) }
+{
+    columns.push(longer_column(alloc, column, more)?)
+}
+
 fn longer_columns(
     alloc: Global,
     model: &Model,
@@ -271,7 +316,7 @@ fn longer_columns(
     let lists = lists_of_cuts(alloc, model, first, cuts)?;
     let mut columns = Seq::new(alloc);
     for (j, column) in model.cols.as_slice().iter().enumerate() {
-        columns.push(longer_column(alloc, column, lists[j].as_slice())?)?;
+        add_longer(alloc, &mut columns, column, lists[j].as_slice())?;
     }
     Ok(columns)
 }
@@ -286,15 +331,13 @@ fn extend(alloc: Global, model: &Model, cuts: &[Ineq]) -> Result<Model, Memory>
     ensures rising { OnOk result (AreRising cuts.now) }
 {
     let first = model.rows.as_slice().len() as u32;
-    let names = cut_names(alloc, model, cuts.len() as u32)?;
-    let mut rows = Seq::new(alloc);
-    add_row_copies(alloc, &mut rows, model.rows.as_slice())?;
-    add_cut_rows(alloc, &mut rows, names.as_slice(), cuts)?;
+    let rows = named_rows(alloc, model, cuts)?;
+    let cols = longer_columns(alloc, model, first, cuts)?;
     Ok(Model {
         name: copied_name(alloc, model.name.as_slice())?,
         maximise: model.maximise,
         rows,
-        cols: longer_columns(alloc, model, first, cuts)?,
+        cols,
     })
 }
 

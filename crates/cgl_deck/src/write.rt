@@ -23,7 +23,7 @@ pub(crate) fn is_negative(number: Dec) -> bool
 pub(crate) fn is_same(a: Dec, b: Dec) -> bool
     ensures { result ≡ is_same_decimal a b }
 {
-    a.m() == b.m() && a.e() == b.e()
+    a == b
 }
 
 // ---- lines
@@ -37,13 +37,19 @@ fn add(text: &mut Vec<u8>, bytes: &[u8]) -> Result<(), Memory>
     Ok(())
 }
 
+fn add_word(text: &mut Vec<u8>, word: &[u8]) -> Result<(), Memory>
+    ensures { OnOk result (text.new.items ≡ text.old.items ++ 32 ∷ word.now) }
+{
+    add(text, b" ")?;
+    add(text, word)
+}
+
 /// A line with each word behind a space.
 fn add_line(text: &mut Vec<u8>, words: &[&[u8]]) -> Result<(), Memory>
     ensures { OnOk result (text.new.items ≡ text.old.items ++ data_line (map (λ word. word.now) words.now)) }
 {
     for word in words {
-        add(text, b" ")?;
-        add(text, word)?;
+        add_word(text, word)?;
     }
     add(text, b"\n")
 }
@@ -70,9 +76,8 @@ fn add_name(text: &mut Vec<u8>, name: &[u8]) -> Result<(), Memory>
     if name.is_empty() {
         return add(text, b"NAME\n");
     }
-    add(text, b"NAME ")?;
-    add(text, name)?;
-    add(text, b"\n")
+    add(text, b"NAME")?;
+    add_line(text, &[name])
 }
 
 fn add_sense(text: &mut Vec<u8>, maximise: bool) -> Result<(), Memory>
@@ -149,13 +154,20 @@ fn add_marker(text: &mut Vec<u8>, before: bool, integer: bool) -> Result<(), Mem
     }
 }
 
+/// A column behind the marker that it needs.
+fn add_marked(text: &mut Vec<u8>, rows: &[Row], before: bool, column: &Column) -> Result<(), Memory>
+    ensures { OnOk result (text.new.items ≡ text.old.items ++ marker_text before column.now.integer ++ column_text rows.now column.now) }
+{
+    add_marker(text, before, column.integer)?;
+    add_column(text, rows, column)
+}
+
 fn add_columns(text: &mut Vec<u8>, rows: &[Row], columns: &[Column]) -> Result<(), Memory>
     ensures { OnOk result (text.new.items ≡ text.old.items ++ columns_text rows.now false columns.now) }
 {
     let mut before = false;
     for column in columns {
-        add_marker(text, before, column.integer)?;
-        add_column(text, rows, column)?;
+        add_marked(text, rows, before, column)?;
         before = column.integer;
     }
     add_marker(text, before, false)
@@ -291,28 +303,52 @@ fn add_bounds(text: &mut Vec<u8>, columns: &[Column]) -> Result<(), Memory>
 
 // ---- all
 
+fn add_head(text: &mut Vec<u8>, model: &Model) -> Result<(), Memory>
+    ensures { OnOk result (text.new.items ≡ text.old.items ++ name_text model.now.name ++ sense_text model.now.maximise) }
+{
+    add_name(text, model.name.as_slice())?;
+    add_sense(text, model.maximise)
+}
+
+fn add_matrix(text: &mut Vec<u8>, rows: &[Row], columns: &[Column]) -> Result<(), Memory>
+    ensures { OnOk result (text.new.items ≡ text.old.items ++ codes "ROWS\n" ++ flat_map row_text rows.now ++ codes "COLUMNS\n" ++ columns_text rows.now false columns.now) }
+{
+    add(text, b"ROWS\n")?;
+    add_rows(text, rows)?;
+    add(text, b"COLUMNS\n")?;
+    add_columns(text, rows, columns)
+}
+
+fn add_sections(text: &mut Vec<u8>, rows: &[Row], columns: &[Column]) -> Result<(), Memory>
+    ensures { OnOk result (text.new.items ≡ text.old.items ++ section_text (codes "RHS\n") (flat_map rhs_text rows.now)
+        ++ section_text (codes "RANGES\n") (flat_map range_text rows.now) ++ section_text (codes "BOUNDS\n") (flat_map bound_text columns.now)) }
+{
+    add_right_sides(text, rows)?;
+    add_ranges(text, rows)?;
+    add_bounds(text, columns)
+}
+
+fn add_deck(text: &mut Vec<u8>, model: &Model) -> Result<(), Memory>
+    ensures { OnOk result (text.new.items ≡ text.old.items ++ deck_text model.now) }
+{
+    let rows = model.rows.as_slice();
+    let columns = model.cols.as_slice();
+    add_head(text, model)?;
+    add_matrix(text, rows, columns)?;
+    add_sections(text, rows, columns)?;
+    add(text, b"ENDATA\n")
+}
+
 /// The canonical text of a model, as bytes. Its length is that of `deck_len`, and has no limit here.
 /// An entry in a row that the model does not have is written with an empty name; a valid model has none.
 ///
 /// # Errors
 ///
 /// `Memory` for want of memory.
-#[tactic(auto, unfolding(crate::specs::DeckText::deck_text))]
 pub fn deck_text(alloc: Global, model: &Model) -> Result<Vec<u8>, Memory>
     ensures { IfOk result (λ text. text.items ≡ deck_text model.now) }
 {
     let mut text = Vec::new(alloc);
-    let rows = model.rows.as_slice();
-    let columns = model.cols.as_slice();
-    add_name(&mut text, model.name.as_slice())?;
-    add_sense(&mut text, model.maximise)?;
-    add(&mut text, b"ROWS\n")?;
-    add_rows(&mut text, rows)?;
-    add(&mut text, b"COLUMNS\n")?;
-    add_columns(&mut text, rows, columns)?;
-    add_right_sides(&mut text, rows)?;
-    add_ranges(&mut text, rows)?;
-    add_bounds(&mut text, columns)?;
-    add(&mut text, b"ENDATA\n")?;
+    add_deck(&mut text, model)?;
     Ok(text)
 }

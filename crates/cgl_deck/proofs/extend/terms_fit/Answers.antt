@@ -1,0 +1,9 @@
+use Rattle.std.proofs.Common.{List, length, ap, arith}
+use Rattle.cgl_model.specs.Inequality.{Term}
+use Rattle.cgl_deck.proofs.ListTurnLaws.{room_turn}
+use Rattle.cgl_deck.proofs.extend.terms_fit.Goals as goal
+
+pub loop-cut-preserved : goal.loop-cut-preserved
+loop-cut-preserved c =
+    room_turn (λ v. length v.terms) c.args.cuts.now c.loop-cut.cut-index c.cut-item.result c.loop-cut.left _ c.args.room (omega arith) c.cut-item.is
+    (ap (λ (l : List Term). length l) c.as_slice-terms.ensures.value) (omega arith) c.loop-cut.invariant

@@ -1,0 +1,8 @@
+use Rattle.std.proofs.Common.{arith}
+use Rattle.cgl_deck.specs.DeckText.{row_text}
+use Rattle.cgl_deck.proofs.TurnLaws.{item_turn}
+use Rattle.cgl_deck.proofs.write.add_rows.Goals as goal
+
+pub loop-row-preserved : goal.loop-row-preserved
+loop-row-preserved c =
+    item_turn row_text c.args.rows.now c.loop-row.row-index c.row-item.result _ _ _ (omega arith) c.row-item.is c.in_ok-add_row.ensures c.loop-row.invariant
