@@ -1,9 +1,13 @@
 -- Steps of the search for unused names.
-use Rattle.std.proofs.Common.{◌≡◌, List, ℕ, suc, ◌+◌, ◌-◌, ◌<◌, ◌≤◌, [], ◌∷◌, ◌++◌, length, filter, take, map, ap, sym, ◌∙◌, true, false, arith, inl, inr, append-nil, append_assoc, length-append, subst}
+use Rattle.std.proofs.Common.{◌≡◌, List, ℕ, suc, ◌+◌, ◌-◌, ◌<◌, ◌≤◌, [], ◌∷◌, ◌++◌, length, filter, take, drop, get_or, map, ap, sym, ◌∙◌, Bool, true, false, ◌||◌, arith, inl, inr, append-nil, append_assoc, length-append, subst}
+use Rattle.std.specs.Str.{bytes_eq}
 use Rattle.std.proofs.lemmas.Bool.{cases_Bool}
 use Rattle.cgl_num.specs.NumberText.{Word}
+use Rattle.cgl_text.specs.Text.{is_one_of}
 use Rattle.cgl_model.specs.declared.mip.Model.{Model}
+use Rattle.cgl_model.specs.declared.mip.Row.{Row}
 use Rattle.cgl_deck.specs.CutNames.{cut_name, cut_names, is_unused, numbers_from}
+use Rattle.cgl_deck.proofs.TurnLaws.{next_item}
 
 abbrev pub unused_from : Model → ℕ → ℕ → List Word
 unused_from m k tries = filter (is_unused m) (map cut_name (numbers_from k tries))
@@ -54,3 +58,11 @@ names_turn_at m n found next all number last name room tries name_is now before 
     let turned : IsFound m n (number + 1 + 1) (last - (number + 1)) (found ++ filter (is_unused m) (cut_name (number + 1) ∷ [])) all =
     names_turn m n found all (number + 1) (last - (number + 1)) room (rw left at before) in
     subst (λ f. IsFound m n (number + 1 + 1) (last - (number + 1)) f all) (ap (λ w. found ++ filter (is_unused m) (w ∷ [])) (sym name_is) ∙ sym now) turned
+
+-- a row of another name is passed
+pub other_row_turn : (rows : List Row) (i : ℕ) (row : Row) (name own : Word) (same all : Bool) → i < length rows → row ≡ get_or rows i row → own ≡ row.name
+    → same ≡ bytes_eq name own → same ≡ false → is_one_of (map (λ r. r.name) (drop i rows)) name ≡ all → is_one_of (map (λ r. r.name) (drop (i + 1) rows)) name ≡ all
+other_row_turn rows i row name own same all lt at own_is same_is other before =
+    let here : bytes_eq name row.name ≡ false = ap (bytes_eq name) (sym own_is) ∙ sym same_is ∙ other in
+    ap (λ b. b || is_one_of (map (λ r. r.name) (drop (i + 1) rows)) name) (sym here)
+    ∙ ap (λ l. is_one_of (map (λ r. r.name) l) name) (sym (next_item rows i row row lt at)) ∙ before
