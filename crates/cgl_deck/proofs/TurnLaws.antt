@@ -46,6 +46,14 @@ column_turn rows cols i c before text more all lt is now prior =
     ap (λ t. t ++ rest) (now ∙ append_assoc text own (column_text rows c)) ∙ append_assoc text (own ++ column_text rows c) rest
     ∙ ap (λ l. text ++ columns_text rows before l) (sym (next_item cols i c c lt is)) ∙ prior
 
+pub line_ended : {X : Type 0} (word : X → Word) (xs : List X) (i : ℕ) (text more all : List ℕ) → length xs ≤ i → text ++ data_line (map word (drop i xs)) ≡ all
+    → more ≡ text ++ 10 ∷ [] → more ≡ all
+line_ended word xs i text more all le before now = now ∙ ap (λ l. text ++ data_line (map word l)) (sym (drop_all i xs le)) ∙ before
+
+pub columns_ended : (rows : List Row) (cols : List Column) (i : ℕ) (before : Bool) (text more all : List ℕ) → length cols ≤ i → text ++ columns_text rows before (drop i cols) ≡ all
+    → more ≡ text ++ marker_text before false → more ≡ all
+columns_ended rows cols i before text more all le prior now = now ∙ ap (λ l. text ++ columns_text rows before l) (sym (drop_all i cols le)) ∙ prior
+
 -- ---- sections
 
 pub section_ready : {X : Type 0} (f : X → List ℕ) (xs : List X) (i : ℕ) (before head start text : List ℕ) → length xs ≤ i → start ≡ before ++ head

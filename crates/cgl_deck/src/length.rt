@@ -1,31 +1,29 @@
-ghost use Rattle.std.specs.Prelude.{◌≡◌, List, ℕ, [], ◌∷◌, ◌-◌, false, flat_map, length, map};
+ghost use Rattle.std.specs.Prelude.{◌≡◌, List, ℕ, [], ◌∷◌, ◌-◌, ◌≤◌, false, flat_map, length};
 ghost use Rattle.cgl_num.specs.Decimal.{decimal_text};
 ghost use Rattle.cgl_deck.specs.DeckText.{both_text, bound_line, bound_text, column_text, columns_text, data_line, deck_text, lower_text, marker_text, name_text, range_text, rhs_text, row_text, section_text, sense_text};
 ghost use Rattle.cgl_deck.specs.DeckLength.{most};
 
-use crate::write::{is_negative, is_same, is_zero, kind_letter, name_of_row};
+use crate::write::{is_negative, is_same, is_zero, name_of_row};
 use cgl_model::{Column, Model, Row};
 use cgl_num::Dec;
 
 // Lengths stay at the end of u64 once they reach it.
 
-/// The length of a line with each word behind a space.
-fn line_len(words: &[&[u8]]) -> u64
-    ensures { result ≡ most (length (data_line (map (λ word. word.now) words.now))) }
+/// The length of a number's digits, sign and point.
+fn digits_len(number: Dec) -> u64
+    ensures digits { result ≡ length (decimal_text number) }
+    ensures few { result ≤ 48 }
 {
-    let mut total: u64 = 0;
-    for word in words {
-        total = total.saturating_add(1).saturating_add(word.len() as u64);
-    }
-    total.saturating_add(1)
+    let mut digits = [0; 48];
+    number.digits(&mut digits) as u64
 }
 
+/// The length of a line of two words and a number, each behind a space.
 fn number_line_len(first: &[u8], second: &[u8], number: Dec) -> u64
     ensures { result ≡ most (length (data_line (first.now ∷ second.now ∷ decimal_text number ∷ []))) }
 {
-    let mut digits = [0; 48];
-    let len = number.digits(&mut digits);
-    line_len(&[first, second, &digits[..len]])
+    let words = (first.len() as u64).saturating_add(second.len() as u64);
+    words.saturating_add(digits_len(number) + 4)
 }
 
 fn name_len(name: &[u8]) -> u64
@@ -47,8 +45,7 @@ fn sense_len(maximise: bool) -> u64
 fn row_len(row: &Row) -> u64
     ensures { result ≡ most (length (row_text row.now)) }
 {
-    let kind = [kind_letter(row.kind)];
-    line_len(&[&kind, row.name.as_slice()])
+    (row.name.as_slice().len() as u64).saturating_add(4)
 }
 
 fn rows_len(rows: &[Row]) -> u64
@@ -148,15 +145,16 @@ fn ranges_len(rows: &[Row]) -> u64
 fn mark_len(kind: &[u8], name: &[u8]) -> u64
     ensures { result ≡ most (length (bound_line kind.now name.now [])) }
 {
-    line_len(&[kind, b"BND", name])
+    (kind.len() as u64)
+        .saturating_add(name.len() as u64)
+        .saturating_add(7)
 }
 
 fn value_len(kind: &[u8], name: &[u8], value: Dec) -> u64
     ensures { result ≡ most (length (bound_line kind.now name.now (decimal_text value ∷ []))) }
 {
-    let mut digits = [0; 48];
-    let len = value.digits(&mut digits);
-    line_len(&[kind, b"BND", name, &digits[..len]])
+    let words = (kind.len() as u64).saturating_add(name.len() as u64);
+    words.saturating_add(digits_len(value) + 8)
 }
 
 fn both_len(name: &[u8], lo: Dec, up: Dec) -> u64

@@ -91,7 +91,7 @@ fn add_sense(text: &mut Vec<u8>, maximise: bool) -> Result<(), Memory>
 
 // ---- rows
 
-pub(crate) fn kind_letter(kind: RowKind) -> u8
+fn kind_letter(kind: RowKind) -> u8
     ensures { result ∷ [] ≡ kind_word kind }
 {
     match kind {
