@@ -1,5 +1,6 @@
 -- From the steps of a cut in memory to its texts.
-use Rattle.std.proofs.Common.{◌≡◌, ℕ, Bool, true, false, ◌||◌, List, [], ◌∷◌, length, map, zip, Some, Vec, refl, sym, ap, ◌∙◌, inr}
+use Rattle.std.specs.Result.{result_err}
+use Rattle.std.proofs.Common.{◌≡◌, ℕ, Bool, true, false, ◌||◌, List, [], ◌∷◌, length, map, zip, Some, None, Vec, Result, Ok, Err, IfErr, refl, sym, ap, subst, ◌∙◌, ◌⊎◌, inl, inr}
 use Rattle.std.specs.declared.alloc.Global.{Global}
 use Rattle.cgl_model.specs.declared.linear.Ineq.{Ineq}
 use Rattle.cgl_model.specs.declared.mip.Model.{Model}
@@ -9,69 +10,71 @@ use Rattle.cgl_deck.specs.CutNames.{cut_names}
 use Rattle.cgl_deck.specs.DeckText.{deck_text}
 use Rattle.cgl_deck.specs.Extended.{extended}
 use Rattle.cgl_pool.specs.declared.pool.Kept.{Kept}
-use Rattle.cgl_pool.specs.declared.pool.Stamped.{Stamped}
-use Rattle.cgl_pool.specs.Listed.{Key, listed, wides}
+use Rattle.cgl_pool.specs.Listed.{Key, wides}
 use Rattle.cgl_prooftext.specs.ProofText.{proof_text}
-use Rattle.cgl_app.specs.declared.refusal.Refusal.TheVariants.{TooLarge}
+use Rattle.cgl_app.specs.declared.refusal.Refusal.{Refusal}
+use Rattle.cgl_app.specs.declared.refusal.Refusal.TheVariants.{TooLarge, Memory}
 use Rattle.cgl_app.specs.CutOf.{answers, extension, inequality_of, is_too_large, is_too_long, listed_cuts, proof_of, proofs_of, report_of}
 use Rattle.cgl_app.specs.CutSteps.{AreTexts, IsExtendedText, TextsRefused, derivation_of}
 use Rattle.cgl_app.specs.Report.{report_text}
 
--- what stands in memory once the cuts are listed and taken apart
-pub record IsGathered (m : Model) (x : Point) (moved : List Kept) (cuts : List Ineq) (derivations : List Derivation) : Type 0 where
-  pub listed_is : moved ≡ listed_cuts m x
-  pub cuts_is : cuts ≡ map inequality_of (listed_cuts m x)
-  pub derivations_is : derivations ≡ map derivation_of (listed_cuts m x)
+pub with_err : {A E : Type 0} (P : E → Type 0) (result : Result A E) (e : E) → result_err result ≡ Some e → P e → IfErr result P
+with_err P (Ok x) e is p = tt
+with_err P (Err y) e is p = let same : e ≡ y = cc in subst P same p
 
-pub gathered : (m : Model) (x : Point) (found : List Stamped) (kept moved : List Kept) (cuts : List Ineq) (derivations : List Derivation)
-    → found ≡ answers m x → kept ≡ listed found → moved ≡ kept → cuts ≡ map inequality_of moved → derivations ≡ map derivation_of moved → IsGathered m x moved cuts derivations
-gathered m x found kept moved cuts derivations ef ek em ec ed =
-    let all = em ∙ ek ∙ ap listed ef in
-    record { listed_is = all; cuts_is = ec ∙ ap (map inequality_of) all; derivations_is = ed ∙ ap (map derivation_of) all }
+pub deck_made : (m : Model) (listed : List Kept) (cuts lent : List Ineq) (deck : Vec ℕ Global) → cuts ≡ map inequality_of listed → lent ≡ cuts
+    → IsExtendedText m lent deck → IsExtendedText m (map inequality_of listed) deck
+deck_made m listed cuts lent deck ec el t = let P : List Ineq → Type 0 = λ c. IsExtendedText m c deck in subst P (el ∙ ec) t
 
 zipped : (cuts : List Kept) → zip (map inequality_of cuts) (map derivation_of cuts) ≡ map proof_of cuts
 zipped [] = refl
 zipped (k ∷ cuts) = ap (λ rest. proof_of k ∷ rest) (zipped cuts)
 
-pub proofs_made : (m : Model) (x : Point) (moved : List Kept) (cuts : List Ineq) (derivations : List Derivation) (text : List ℕ) → IsGathered m x moved cuts derivations
-    → text ≡ proof_text (zip cuts derivations) → text ≡ proofs_of m x
-proofs_made m x moved cuts derivations text g e =
-    e ∙ ap (λ a. proof_text (zip a derivations)) g.cuts_is ∙ ap (λ b. proof_text (zip (map inequality_of (listed_cuts m x)) b)) g.derivations_is
-    ∙ ap proof_text (zipped (listed_cuts m x))
+pub proofs_made : (listed : List Kept) (cuts : List Ineq) (derivations : List Derivation) (text : List ℕ) → cuts ≡ map inequality_of listed → derivations ≡ map derivation_of listed
+    → text ≡ proof_text (zip cuts derivations) → text ≡ proof_text (map proof_of listed)
+proofs_made listed cuts derivations text ec ed e =
+    e ∙ ap (λ a. proof_text (zip a derivations)) ec ∙ ap (λ b. proof_text (zip (map inequality_of listed) b)) ed ∙ ap proof_text (zipped listed)
 
-pub report_made : (m : Model) (x : Point) (found : List Stamped) (kept lent : List Kept) (wide keys : List Key) (text : List ℕ) → found ≡ answers m x → kept ≡ listed found → wide ≡ wides found
-    → lent ≡ kept → keys ≡ wide → text ≡ report_text (cut_names m (length lent)) lent keys → text ≡ report_of m x
-report_made m x found kept lent wide keys text ef ek ew el eq e =
-    let all = el ∙ ek ∙ ap listed ef in
-    e ∙ ap (λ l. report_text (cut_names m (length l)) l keys) all
-    ∙ ap (λ k. report_text (cut_names m (length (listed_cuts m x))) (listed_cuts m x) k) (eq ∙ ew ∙ ap wides ef)
+pub lengths_are : (a b deck proofs : List ℕ) (large t : Bool) → a ≡ deck → b ≡ proofs → large ≡ (is_too_long a || is_too_long b) → large ≡ t
+    → (is_too_long deck || is_too_long proofs) ≡ t
+lengths_are a b deck proofs large t ea eb e is =
+    sym (e ∙ ap (λ z. is_too_long z || is_too_long b) ea ∙ ap (λ z. is_too_long deck || is_too_long z) eb) ∙ is
 
-extended_is : (m : Model) (x : Point) (moved : List Kept) (cuts lent : List Ineq) (derivations : List Derivation) (deck : Vec ℕ Global) → IsGathered m x moved cuts derivations → lent ≡ cuts
-    → (t : IsExtendedText m lent deck) → extension m x ≡ Some t.n
-extended_is m x moved cuts lent derivations deck g e t = ap (extended m) (sym (e ∙ g.cuts_is)) ∙ t.extended_is
+extended_is : (m : Model) (x : Point) (listed : List Kept) (deck : Vec ℕ Global) → listed ≡ listed_cuts m x → (t : IsExtendedText m (map inequality_of listed) deck)
+    → extension m x ≡ Some t.n
+extended_is m x listed deck is t = ap (λ z. extended m (map inequality_of z)) (sym is) ∙ t.extended_is
 
-size_is : (m n : Model) (x : Point) (deck proofs : List ℕ) (a b : List ℕ) (large : Bool) → a ≡ deck → b ≡ proofs → deck ≡ deck_text n → proofs ≡ proofs_of m x
-    → large ≡ (is_too_long a || is_too_long b) → large ≡ is_too_large n m x
+size_is : (m n : Model) (x : Point) (listed : List Kept) (deck proofs : List ℕ) (t : Bool) → listed ≡ listed_cuts m x → deck ≡ deck_text n → proofs ≡ proof_text (map proof_of listed)
+    → (is_too_long deck || is_too_long proofs) ≡ t → is_too_large n m x ≡ t
 unfolding is_too_large
-size_is m n x deck proofs a b large ea eb ed ep e =
-    e ∙ ap (λ t. is_too_long t || is_too_long b) (ea ∙ ed) ∙ ap (λ t. is_too_long (deck_text n) || is_too_long t) (eb ∙ ep)
+size_is m n x listed deck proofs t is ed ep e =
+    ap (λ z. is_too_long z || is_too_long (proofs_of m x)) (sym ed) ∙ ap (λ z. is_too_long deck || is_too_long z) (sym (ep ∙ ap (λ l. proof_text (map proof_of l)) is)) ∙ e
 
-pub texts_made : (m : Model) (x : Point) (moved : List Kept) (cuts lent : List Ineq) (derivations : List Derivation) (deck proofs report : Vec ℕ Global) (a b : List ℕ) (large : Bool)
-    → IsGathered m x moved cuts derivations → lent ≡ cuts → IsExtendedText m lent deck → proofs.items ≡ proofs_of m x → report.items ≡ report_of m x
-    → a ≡ deck.items → b ≡ proofs.items → large ≡ (is_too_long a || is_too_long b) → large ≡ false
+pub deck_refused : (m : Model) (x : Point) (listed : List Kept) (cuts lent : List Ineq) (refusal : Refusal) → cuts ≡ map inequality_of listed → lent ≡ cuts
+    → (refusal ≡ Memory) ⊎ ((refusal ≡ TooLarge) × (extended m lent ≡ None)) → listed ≡ listed_cuts m x → TextsRefused m x refusal
+deck_refused m x listed cuts lent refusal ec el (inl memory) is = inl memory
+deck_refused m x listed cuts lent refusal ec el (inr none) is =
+    inr (none.0, inl (ap (λ z. extended m (map inequality_of z)) (sym is) ∙ ap (extended m) (sym (el ∙ ec)) ∙ none.1))
+
+pub texts_too_large : (m : Model) (x : Point) (listed : List Kept) (deck proofs : Vec ℕ Global) → IsExtendedText m (map inequality_of listed) deck
+    → proofs.items ≡ proof_text (map proof_of listed) → (is_too_long deck.items || is_too_long proofs.items) ≡ true → listed ≡ listed_cuts m x → TextsRefused m x TooLarge
+texts_too_large m x listed deck proofs t ep large is =
+    inr (refl, inr (t.n, extended_is m x listed deck is t, size_is m t.n x listed deck.items proofs.items true is t.text_is ep large))
+
+pub report_made : (m : Model) (x : Point) (kept lent : List Kept) (wide keys : List Key) (text : List ℕ) → kept ≡ listed_cuts m x → wide ≡ wides (answers m x)
+    → lent ≡ kept → keys ≡ wide → text ≡ report_text (cut_names m (length lent)) lent keys → text ≡ report_of m x
+report_made m x kept lent wide keys text ek ew el eq e =
+    e ∙ ap (λ l. report_text (cut_names m (length l)) l keys) (el ∙ ek)
+    ∙ ap (λ k. report_text (cut_names m (length (listed_cuts m x))) (listed_cuts m x) k) (eq ∙ ew)
+
+pub texts_made : (m : Model) (x : Point) (listed : List Kept) (deck proofs report : Vec ℕ Global) → listed ≡ listed_cuts m x → IsExtendedText m (map inequality_of listed) deck
+    → proofs.items ≡ proof_text (map proof_of listed) → (is_too_long deck.items || is_too_long proofs.items) ≡ false → report.items ≡ report_of m x
     → AreTexts m x (record { deck = deck; proofs = proofs; report = report })
-texts_made m x moved cuts lent derivations deck proofs report a b large g e t ep er ea eb el small =
-    record {
-      n = t.n;
-      extended_is = extended_is m x moved cuts lent derivations deck g e t;
-      small = sym (size_is m t.n x deck.items proofs.items a b large ea eb t.text_is ep el) ∙ small;
-      deck = t.text_is;
-      proofs = ep;
-      report = er;
-    }
-
-pub texts_too_large : (m : Model) (x : Point) (moved : List Kept) (cuts lent : List Ineq) (derivations : List Derivation) (deck proofs : Vec ℕ Global) (a b : List ℕ) (large : Bool)
-    → IsGathered m x moved cuts derivations → lent ≡ cuts → IsExtendedText m lent deck → proofs.items ≡ proofs_of m x
-    → a ≡ deck.items → b ≡ proofs.items → large ≡ (is_too_long a || is_too_long b) → large ≡ true → TextsRefused m x TooLarge
-texts_too_large m x moved cuts lent derivations deck proofs a b large g e t ep ea eb el is =
-    inr (refl, inr (t.n, extended_is m x moved cuts lent derivations deck g e t, sym (size_is m t.n x deck.items proofs.items a b large ea eb t.text_is ep el) ∙ is))
+texts_made m x listed deck proofs report is t ep small er = record {
+  n = t.n;
+  extended_is = extended_is m x listed deck is t;
+  small = size_is m t.n x listed deck.items proofs.items false is t.text_is ep small;
+  deck = t.text_is;
+  proofs = ep ∙ ap (λ l. proof_text (map proof_of l)) is;
+  report = er;
+}

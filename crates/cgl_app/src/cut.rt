@@ -1,15 +1,21 @@
-ghost use Rattle.std.specs.Prelude.{◌≡◌, ◌⊎◌, ◌||◌, None, IfOk, IfErr, length, map, zip};
+ghost use Rattle.std.specs.Prelude.{◌≡◌, ◌⊎◌, ◌||◌, ◌++◌, ◌∷◌, [], false, None, IfOk, IfErr, OnOk, length, map, zip};
 ghost use Rattle.std.specs.Result.{result_err};
+ghost use Rattle.cgl_model.specs.declared.mip.Model.{Model as Mip};
+ghost use Rattle.cgl_model.specs.Point.{Point as Numbers};
+ghost use Rattle.cgl_model.specs.Inequality.{AreColumnsBelow};
+ghost use Rattle.cgl_model.specs.IntegerForm.{forms_of};
 ghost use Rattle.cgl_model.specs.Valid.{IsSized};
+ghost use Rattle.cgl_gen.specs.RoundMember.{round_member};
 ghost use Rattle.cgl_deck.specs.CutNames.{cut_names};
 ghost use Rattle.cgl_deck.specs.Extended.{extended};
-ghost use Rattle.cgl_pool.specs.Listed.{HaveDistinctKeys};
+ghost use Rattle.cgl_pool.specs.Listed.{HaveDistinctKeys, wides};
 ghost use Rattle.cgl_prooftext.specs.ProofText.{proof_text};
 ghost use Rattle.cgl_app.specs.Report.{report_text};
 ghost use Rattle.cgl_app.specs.View.{view};
 ghost use Rattle.cgl_app.specs.Script.{Came};
-ghost use Rattle.cgl_app.specs.Commands.{cut_script, cut_works};
-ghost use Rattle.cgl_app.specs.CutOf.{answers, inequality_of, is_too_long};
+ghost use Rattle.cgl_where.specs.PointRead.{point_result};
+ghost use Rattle.cgl_app.specs.Commands.{cut_script, cut_works, reads_file};
+ghost use Rattle.cgl_app.specs.CutOf.{answers, inequality_of, is_too_long, listed_cuts, proof_of};
 ghost use Rattle.cgl_app.specs.CutSteps.{derivation_of, AreTexts, IsExtendedText, TextsRefused};
 ghost use Rattle.cgl_app.specs.Meant.{words_of};
 
@@ -21,12 +27,53 @@ use crate::{File, Refusal};
 use cgl_deck::{ExtendError, cut_names, deck_text, with_cuts};
 use cgl_derive::{Candidate, Derivation};
 use cgl_gen::Rounder;
-use cgl_model::{Forms, Ineq, Model, Point};
+use cgl_model::{Forms, Ineq, Model, Point, Side};
 use cgl_num::Memory;
 use cgl_outside::{Shelf, Sink};
 use cgl_pool::{Gathered, Kept, Stamped, gather};
 use cgl_prooftext::proof_text;
 use std::alloc::Global;
+
+/// Puts what simple rounding says of a side behind what it said of the sides before.
+fn add_answer(
+    alloc: Global,
+    model: &Model,
+    point: &Point,
+    item: u64,
+    side: &Side,
+    found: &mut Vec<Stamped>,
+) -> Result<(), Memory>
+    requires { AreColumnsBelow (length point.now.p) side.now.ineq.terms }
+    ensures { OnOk result (found.new.items ≡ found.old.items ++ record { key = (0, item); answer = round_member model.now point.now side.now } ∷ []) }
+{
+    let answer = Rounder::give(alloc, model, point, side)?;
+    let stamped = Stamped {
+        key: (0, item),
+        answer,
+    };
+    let Ok(()) = found.push(stamped) else {
+        return Err(Memory);
+    };
+    Ok(())
+}
+
+/// What simple rounding says of each of the model's sides.
+fn side_answers(
+    alloc: Global,
+    model: &Model,
+    point: &Point,
+    sides: &[Side],
+) -> Result<Vec<Stamped>, Memory>
+    requires sides { sides.now ≡ (forms_of model.now).sides }
+    requires point { length point.now.p ≡ length model.now.cols }
+    ensures { IfOk result (λ found. found.items ≡ answers model.now point.now) }
+{
+    let mut found = Vec::new(alloc);
+    'sides: for (item, side) in sides.iter().enumerate() {
+        add_answer(alloc, model, point, item as u64, side, &mut found)?;
+    }
+    Ok(found)
+}
 
 /// What simple rounding says of each side.
 fn answers(alloc: Global, model: &Model, point: &Point) -> Result<Vec<Stamped>, Memory>
@@ -36,18 +83,7 @@ fn answers(alloc: Global, model: &Model, point: &Point) -> Result<Vec<Stamped>, 
     ensures distinct { IfOk result (λ found. HaveDistinctKeys found.items) }
 {
     let forms = Forms::build(alloc, model)?;
-    let mut found = Vec::new(alloc);
-    'sides: for (item, side) in forms.sides().iter().enumerate() {
-        let answer = Rounder::give(alloc, model, point, side)?;
-        let stamped = Stamped {
-            key: (0, item as u64),
-            answer,
-        };
-        let Ok(()) = found.push(stamped) else {
-            return Err(Memory);
-        };
-    }
-    Ok(found)
+    side_answers(alloc, model, point, forms.sides())
 }
 
 /// The listed cuts as inequalities and their derivations.
@@ -148,24 +184,30 @@ fn proofs(alloc: Global, cuts: Vec<Ineq>, derivations: Vec<Derivation>) -> Resul
     proof_text(alloc, &pairs)
 }
 
-/// All texts that a cut writes.
-fn texts(alloc: Global, model: &Model, point: &Point) -> Result<CutTexts, Refusal>
+/// The cuts that are listed, and the sides whose answer was too wide.
+fn gathered(alloc: Global, model: &Model, point: &Point) -> Result<Gathered, Memory>
     requires sized { IsSized model.now }
     requires point { length point.now.p ≡ length model.now.cols }
-    ensures texts { IfOk result (AreTexts model.now point.now) }
-    ensures refused { IfErr result (TextsRefused model.now point.now) }
+    ensures listed { IfOk result (λ gathered. gathered.listed ≡ listed_cuts model.now point.now) }
+    ensures wide { IfOk result (λ gathered. gathered.wides ≡ wides (answers model.now point.now)) }
 {
-    let Ok(answers) = answers(alloc, model, point) else {
-        return Err(Refusal::Memory);
-    };
-    let Ok(gathered) = gather(alloc, answers) else {
-        return Err(Refusal::Memory);
-    };
-    let Gathered { listed, wides } = gathered;
-    let Ok(report) = report(alloc, model, listed.as_slice(), wides.as_slice()) else {
-        return Err(Refusal::Memory);
-    };
-    let Ok((cuts, derivations)) = parts(alloc, listed.into_vec()) else {
+    let answers = answers(alloc, model, point)?;
+    gather(alloc, answers)
+}
+
+/// The texts of the deck with these cuts and of their derivations.
+fn deck_and_proofs(
+    alloc: Global,
+    model: &Model,
+    listed: Vec<Kept>,
+) -> Result<(Vec<u8>, Vec<u8>), Refusal>
+    requires sized { IsSized model.now }
+    ensures deck { IfOk result (λ texts. IsExtendedText model.now (map inequality_of listed.items) texts.0) }
+    ensures proofs { IfOk result (λ texts. texts.1.items ≡ proof_text (map proof_of listed.items)) }
+    ensures small { IfOk result (λ texts. (is_too_long texts.0.items || is_too_long texts.1.items) ≡ false) }
+    ensures refused { (x : Numbers) → listed.items ≡ listed_cuts model.now x → IfErr result (TextsRefused model.now x) }
+{
+    let Ok((cuts, derivations)) = parts(alloc, listed) else {
         return Err(Refusal::Memory);
     };
     let deck = extended_text(alloc, model, &cuts)?;
@@ -175,11 +217,46 @@ fn texts(alloc: Global, model: &Model, point: &Point) -> Result<CutTexts, Refusa
     if are_too_long(&deck, &proofs) {
         return Err(Refusal::TooLarge);
     }
+    Ok((deck, proofs))
+}
+
+/// All texts that a cut writes.
+fn texts(alloc: Global, model: &Model, point: &Point) -> Result<CutTexts, Refusal>
+    requires sized { IsSized model.now }
+    requires point { length point.now.p ≡ length model.now.cols }
+    ensures texts { IfOk result (AreTexts model.now point.now) }
+    ensures refused { IfErr result (TextsRefused model.now point.now) }
+{
+    let Ok(gathered) = gathered(alloc, model, point) else {
+        return Err(Refusal::Memory);
+    };
+    let Gathered { listed, wides } = gathered;
+    let Ok(report) = report(alloc, model, listed.as_slice(), wides.as_slice()) else {
+        return Err(Refusal::Memory);
+    };
+    let (deck, proofs) = deck_and_proofs(alloc, model, listed.into_vec())?;
     Ok(CutTexts {
         deck,
         proofs,
         report,
     })
+}
+
+/// Writes the texts of a cut.
+fn write_texts<S: Shelf, O: Sink>(
+    cut: &Cut<'_>,
+    texts: &CutTexts,
+    shelf: &mut S,
+    out: &mut O,
+) -> Result<(), Refusal>
+    ensures { (m : Mip) (x : Numbers) → AreTexts m x texts.now → Came (cut_works (words_of cut.now) m x)
+        (view (S.held shelf.old) (S.failed_reads shelf.old) (S.failed_writes shelf.old) (O.written out.old) (O.faults out.old))
+        (view (S.held shelf.new) (S.failed_reads shelf.new) (S.failed_writes shelf.new) (O.written out.new) (O.faults out.new))
+        (result_err result) }
+{
+    write_file(shelf, File::Out, cut.out, &texts.deck)?;
+    write_file(shelf, File::Proof, cut.proof, &texts.proofs)?;
+    put_report(out, &texts.report)
 }
 
 /// Writes what a cut makes of the model and the point.
@@ -199,9 +276,25 @@ fn deliver<S: Shelf, O: Sink>(
         (result_err result) }
 {
     let texts = texts(alloc, model, point)?;
-    write_file(shelf, File::Out, cut.out, &texts.deck)?;
-    write_file(shelf, File::Proof, cut.proof, &texts.proofs)?;
-    put_report(out, &texts.report)
+    write_texts(cut, &texts, shelf, out)
+}
+
+/// Reads the point for the model, and does the rest.
+fn with_model<S: Shelf, O: Sink>(
+    alloc: Global,
+    cut: &Cut<'_>,
+    model: &Model,
+    shelf: &mut S,
+    out: &mut O,
+) -> Result<(), Refusal>
+    requires { IsSized model.now }
+    ensures { Came (reads_file File.Point (words_of cut.now).point (point_result model.now) (λ x. cut_works (words_of cut.now) model.now x))
+        (view (S.held shelf.old) (S.failed_reads shelf.old) (S.failed_writes shelf.old) (O.written out.old) (O.faults out.old))
+        (view (S.held shelf.new) (S.failed_reads shelf.new) (S.failed_writes shelf.new) (O.written out.new) (O.faults out.new))
+        (result_err result) }
+{
+    let point = read_point(alloc, shelf, cut.point, model)?;
+    deliver(alloc, cut, model, &point, shelf, out)
 }
 
 /// The command `cut`.
@@ -217,6 +310,5 @@ pub fn cut<S: Shelf, O: Sink>(
         (result_err result) }
 {
     let model = read_model(alloc, shelf, cut.model)?;
-    let point = read_point(alloc, shelf, cut.point, &model)?;
-    deliver(alloc, cut, &model, &point, shelf, out)
+    with_model(alloc, cut, &model, shelf, out)
 }

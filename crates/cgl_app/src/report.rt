@@ -1,4 +1,4 @@
-ghost use Rattle.std.specs.Prelude.{◌≡◌, ◌≤◌, ◌^◌, ◌++◌, decimal, flat_map, length, sum_by, zip, IfOk, OnOk};
+ghost use Rattle.std.specs.Prelude.{◌≡◌, ◌≤◌, ◌^◌, ◌++◌, codes, decimal, flat_map, length, sum_by, zip, IfOk, OnOk};
 ghost use Rattle.cgl_model.specs.Valid.{IsSized};
 ghost use Rattle.cgl_num.specs.Fraction.{fraction_text};
 ghost use Rattle.cgl_app.specs.Report.{counts_text, cut_line, generator_word, key_text, report_text, wide_line};
@@ -93,6 +93,17 @@ fn add_wides(text: &mut Vec<u8>, wides: &[(u32, u64)]) -> Result<(), Memory>
     Ok(())
 }
 
+/// How many cuts and how many wide items there are.
+fn add_head(text: &mut Vec<u8>, cuts: usize, wides: usize) -> Result<(), Memory>
+    ensures { OnOk result (text.new.items ≡ text.old.items ++ codes "cuts " ++ decimal cuts ++ codes " wide " ++ decimal wides ++ codes "\n") }
+{
+    add(text, b"cuts ")?;
+    add_number(text, cuts as u64)?;
+    add(text, b" wide ")?;
+    add_number(text, wides as u64)?;
+    add(text, b"\n")
+}
+
 /// The report of the listed cuts, under the names of their rows, and of the wide items.
 #[tactic(auto, unfolding(crate::specs::Report::report_text))]
 pub fn report_text(
@@ -104,11 +115,7 @@ pub fn report_text(
     ensures { IfOk result (λ text. text.items ≡ report_text names.now cuts.now wides.now) }
 {
     let mut text = Vec::new(alloc);
-    add(&mut text, b"cuts ")?;
-    add_number(&mut text, cuts.len() as u64)?;
-    add(&mut text, b" wide ")?;
-    add_number(&mut text, wides.len() as u64)?;
-    add(&mut text, b"\n")?;
+    add_head(&mut text, cuts.len(), wides.len())?;
     add_cuts(&mut text, names, cuts)?;
     add_wides(&mut text, wides)?;
     Ok(text)
@@ -128,6 +135,19 @@ fn entries(columns: &[Column]) -> u64
     count
 }
 
+fn add_counts(text: &mut Vec<u8>, rows: usize, cols: usize, entries: u64) -> Result<(), Memory>
+    ensures { OnOk result (text.new.items ≡ text.old.items ++ codes "rows " ++ decimal rows ++ codes " cols " ++ decimal cols
+        ++ codes " entries " ++ decimal entries ++ codes "\n") }
+{
+    add(text, b"rows ")?;
+    add_number(text, rows as u64)?;
+    add(text, b" cols ")?;
+    add_number(text, cols as u64)?;
+    add(text, b" entries ")?;
+    add_number(text, entries)?;
+    add(text, b"\n")
+}
+
 /// How many rows, columns and entries the model has.
 #[tactic(auto, unfolding(crate::specs::Report::counts_text))]
 pub fn counts_text(alloc: Global, model: &Model) -> Result<Vec<u8>, Memory>
@@ -135,12 +155,8 @@ pub fn counts_text(alloc: Global, model: &Model) -> Result<Vec<u8>, Memory>
     ensures { IfOk result (λ text. text.items ≡ counts_text model.now) }
 {
     let mut text = Vec::new(alloc);
-    add(&mut text, b"rows ")?;
-    add_number(&mut text, model.rows.as_slice().len() as u64)?;
-    add(&mut text, b" cols ")?;
-    add_number(&mut text, model.cols.as_slice().len() as u64)?;
-    add(&mut text, b" entries ")?;
-    add_number(&mut text, entries(model.cols.as_slice()))?;
-    add(&mut text, b"\n")?;
+    let rows = model.rows.as_slice().len();
+    let cols = model.cols.as_slice();
+    add_counts(&mut text, rows, cols.len(), entries(cols))?;
     Ok(text)
 }

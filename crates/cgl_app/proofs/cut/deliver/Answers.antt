@@ -1,8 +1,8 @@
-use Rattle.std.proofs.Common.{rules, ◌≡◌, ◌∙◌, Some, refl}
+use Rattle.std.proofs.Common.{rules, ◌≡◌, Some, refl}
 use Rattle.std.specs.Result.{result_err}
 use Rattle.cgl_app.specs.Meant.{words_of}
-use Rattle.cgl_app.proofs.CutStepLaws.{texts_refused, cut_written}
-use Rattle.cgl_app.proofs.StepLaws.{ended, file_refused, file_written, put_came}
+use Rattle.cgl_app.proofs.CutStepLaws.{texts_refused}
+use Rattle.cgl_app.proofs.StepLaws.{ended}
 use Rattle.cgl_app.proofs.cut.deliver.Goals as goal
 
 pub returns-in_err-texts : goal.returns-in_err-texts
@@ -10,34 +10,5 @@ returns-in_err-texts g c =
     let end : result_err c.from_residual.result ≡ Some c.in_err-texts.field-0.0 = search rules in
     ended _ _ _ _ _ end (texts_refused (words_of c.args.cut.now) _ _ _ _ _ c.in_err-texts.ensures.refused refl)
 
-pub returns-in_err-write_file : goal.returns-in_err-write_file
-returns-in_err-write_file g c =
-    let end : result_err c.from_residual-in_err-write_file.result ≡ Some c.in_err-write_file.field-0.0 = search rules in
-    let says = c.in_err-write_file.ensures in
-    let texts = c.in_ok-texts.ensures.texts in
-    let deck = c.deref.ensures.value ∙ texts.deck in
-    ended _ _ _ _ _ end (cut_written (words_of c.args.cut.now) _ _ _ _ _ _ texts (file_refused _ _ _ _ _ _ _ _ _ _ _ _ _ _ deck says.reads says.refused))
-
-pub returns-in_err-write_file-2 : goal.returns-in_err-write_file-2
-returns-in_err-write_file-2 g c =
-    let end : result_err c.from_residual-in_err-write_file-2.result ≡ Some c.in_err-write_file-2.field-0.0 = search rules in
-    let first = c.in_ok-write_file.ensures in
-    let says = c.in_err-write_file-2.ensures in
-    let texts = c.in_ok-texts.ensures.texts in
-    let deck = c.deref.ensures.value ∙ texts.deck in
-    let proofs = c.deref-2.ensures.value ∙ texts.proofs in
-    ended _ _ _ _ _ end (cut_written (words_of c.args.cut.now) _ _ _ _ _ _ texts (file_written _ _ _ _ _ _ _ _ _ _ _ _ _ _ _ deck first.held first.reads first.writes
-    (file_refused _ _ _ _ _ _ _ _ _ _ _ _ _ _ proofs says.reads says.refused)))
-
 pub returns : goal.returns
-returns g c =
-    let first = c.in_ok-write_file.ensures in
-    let second = c.in_ok-write_file-2.ensures in
-    let says = c.put_report.ensures in
-    let texts = c.in_ok-texts.ensures.texts in
-    let deck = c.deref.ensures.value ∙ texts.deck in
-    let proofs = c.deref-2.ensures.value ∙ texts.proofs in
-    let report = c.deref-3.ensures.value ∙ texts.report in
-    cut_written (words_of c.args.cut.now) _ _ _ _ _ _ texts (file_written _ _ _ _ _ _ _ _ _ _ _ _ _ _ _ deck first.held first.reads first.writes
-    (file_written _ _ _ _ _ _ _ _ _ _ _ _ _ _ _ proofs second.held second.reads second.writes
-    (put_came c.put_report.result _ _ _ _ _ _ _ _ _ report says.written says.faults says.refused)))
+returns g c = c.write_texts.ensures _ _ c.in_ok-texts.ensures.texts

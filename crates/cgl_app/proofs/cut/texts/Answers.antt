@@ -1,21 +1,19 @@
-use Rattle.cgl_app.proofs.TextLaws.{gathered, proofs_made, report_made, texts_made, texts_too_large}
+use Rattle.std.proofs.Common.{rules, ◌≡◌, ◌∙◌, Some}
+use Rattle.std.specs.Result.{result_err}
+use Rattle.cgl_app.specs.CutSteps.{TextsRefused}
+use Rattle.cgl_app.proofs.TextLaws.{report_made, texts_made, with_err}
 use Rattle.cgl_app.proofs.cut.texts.Goals as goal
 
-pub returns-then-are_too_long-clause-refused : goal.returns-then-are_too_long-clause-refused
-returns-then-are_too_long-clause-refused c =
-    let m = c.args.model.now in
-    let x = c.args.point.now in
-    let parts = gathered m x _ _ _ _ _ c.in-Ok.ensures.answers c.in-Ok-gather.ensures.cuts c.into_vec.ensures c.in-Ok-parts.ensures.cuts c.in-Ok-parts.ensures.derivations in
-    let proofs = proofs_made m x _ _ _ _ parts c.in-Ok-proofs.ensures in
-    texts_too_large m x _ _ _ _ c.in_ok-deck.deck c.in-Ok-proofs.proofs _ _ c.are_too_long.result parts c.deref.ensures.value c.in_ok-deck.ensures.text proofs
-    c.deref-2.ensures.value c.deref-3.ensures.value c.are_too_long.ensures c.if-are_too_long.true
+pub returns-in_err-deck-clause-refused : goal.returns-in_err-deck-clause-refused
+returns-in_err-deck-clause-refused c =
+    let end : result_err c.from_residual.result ≡ Some c.in_err-deck.field-0.0 = search rules in
+    let refused = c.in_err-deck.ensures.refused c.args.point.now (c.into_vec.ensures ∙ c.in-Ok.ensures.listed) in
+    with_err (TextsRefused c.args.model.now c.args.point.now) c.from_residual.result _ end refused
 
 pub returns-clause-texts : goal.returns-clause-texts
 returns-clause-texts c =
     let m = c.args.model.now in
     let x = c.args.point.now in
-    let parts = gathered m x _ _ _ _ _ c.in-Ok.ensures.answers c.in-Ok-gather.ensures.cuts c.into_vec.ensures c.in-Ok-parts.ensures.cuts c.in-Ok-parts.ensures.derivations in
-    let proofs = proofs_made m x _ _ _ _ parts c.in-Ok-proofs.ensures in
-    let report = report_made m x _ _ _ _ _ _ c.in-Ok.ensures.answers c.in-Ok-gather.ensures.cuts c.in-Ok-gather.ensures.wide c.as_slice.ensures c.as_slice-2.ensures c.in-Ok-report.ensures in
-    texts_made m x _ _ _ _ c.in_ok-deck.deck c.in-Ok-proofs.proofs c.in-Ok-report.report _ _ c.are_too_long.result parts c.deref.ensures.value c.in_ok-deck.ensures.text proofs report
-    c.deref-2.ensures.value c.deref-3.ensures.value c.are_too_long.ensures c.if-are_too_long.false
+    let texts = c.in_ok-deck.ensures in
+    let report = report_made m x _ _ _ _ _ c.in-Ok.ensures.listed c.in-Ok.ensures.wide c.as_slice.ensures c.as_slice-2.ensures c.in-Ok-report.ensures in
+    texts_made m x c.into_vec.result.items _ _ c.in-Ok-report.report (c.into_vec.ensures ∙ c.in-Ok.ensures.listed) texts.deck texts.proofs texts.small report
