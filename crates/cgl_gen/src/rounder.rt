@@ -1,13 +1,14 @@
-ghost use Rattle.std.specs.Prelude.{◌≡◌, length, IfOk};
-ghost use Rattle.cgl_model.specs.Inequality.{AreColumnsBelow};
-ghost use Rattle.cgl_gen.specs.RoundMember.{answer_with, round_member};
+ghost use Rattle.std.specs.Prelude.{◌≡◌, ◌||◌, true, false, if◌then◌else◌, Some, None, length, IfOk, IfErr};
+ghost use Rattle.cgl_model.specs.Inequality.{AreColumnsBelow, violation};
+ghost use Rattle.cgl_derive.specs.declared.answer.Answer.TheVariants.{Cut};
+ghost use Rattle.cgl_gen.specs.RoundMember.{answer_with, is_violated, is_wide_at, is_wide_cut, round_from, round_member};
 
 use crate::column::are_integer;
 use crate::cut::{copied, is_wide};
 use crate::rounding::{divides, divisor_of, rounded, rounding};
 use cgl_derive::{Answer, Candidate};
-use cgl_model::{Ineq, Model, Point, Side};
-use cgl_num::Memory;
+use cgl_model::{Ineq, Model, Place, Point, Side, Wide};
+use cgl_num::{Frac, Memory};
 use std::alloc::Global;
 
 /// Simple rounding: divides a side over integer columns by the gcd of its coefficients, and rounds its right side up.
@@ -45,6 +46,42 @@ impl Rounder {
     }
 }
 
+/// By how much the point violates the cut, where it does.
+fn violation(point: &Point, cut: &Ineq) -> Result<Option<Frac>, Wide>
+    requires columns { AreColumnsBelow (length point.now.p) cut.now.terms }
+    ensures fits { IfOk result (λ violated. (is_wide_cut cut.now || is_wide_at cut.now point.now) ≡ false) }
+    ensures value { IfOk result (λ violated. violated ≡ (if is_violated cut.now point.now then Some (violation cut.now point.now) else None)) }
+    ensures wide { IfErr result (λ e. (is_wide_cut cut.now || is_wide_at cut.now point.now) ≡ true) }
+{
+    if is_wide(cut) {
+        return Err(Wide);
+    }
+    let violation = cut.violation(point)?;
+    if violation.num() <= 0 {
+        return Ok(None);
+    }
+    Ok(Some(violation))
+}
+
+/// The cut as an answer, with its derivation.
+fn derived(
+    alloc: Global,
+    place: Place,
+    divisor: i128,
+    cut: Ineq,
+    violation: Frac,
+) -> Result<Answer, Memory>
+    ensures { IfOk result (λ answer. answer ≡ Cut (record { cut = cut; derivation = round_from place divisor cut; violation = violation })) }
+{
+    let claim = copied(alloc, &cut)?;
+    let derivation = rounding(alloc, place, divisor, claim)?;
+    Ok(Answer::Cut(Candidate {
+        cut,
+        derivation,
+        violation,
+    }))
+}
+
 /// The answer with the cut that the divisor gives.
 fn answer(
     alloc: Global,
@@ -56,20 +93,9 @@ fn answer(
     requires columns { AreColumnsBelow (length point.now.p) cut.terms }
     ensures { IfOk result (λ answer. answer ≡ answer_with side.now point.now divisor cut) }
 {
-    if is_wide(&cut) {
-        return Ok(Answer::Wide);
+    match violation(point, &cut) {
+        Err(_) => Ok(Answer::Wide),
+        Ok(None) => Ok(Answer::Nothing),
+        Ok(Some(violation)) => derived(alloc, side.place, divisor, cut, violation),
     }
-    let Ok(violation) = cut.violation(point) else {
-        return Ok(Answer::Wide);
-    };
-    if violation.num() <= 0 {
-        return Ok(Answer::Nothing);
-    }
-    let claim = copied(alloc, &cut)?;
-    let derivation = rounding(alloc, side.place, divisor, claim)?;
-    Ok(Answer::Cut(Candidate {
-        cut,
-        derivation,
-        violation,
-    }))
 }
