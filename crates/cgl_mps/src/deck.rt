@@ -1,18 +1,23 @@
-ghost use Rattle.std.specs.Prelude.{◌≡◌, ◌⊎◌, ◌∷◌, ◌++◌, [], ℕ, ◌+◌, ◌≤◌, ◌^◌, ◌&&◌, false, length, IfErr, IfOk};
+ghost use Rattle.std.specs.Prelude.{◌≡◌, ◌⊎◌, ◌∷◌, ◌++◌, [], ℕ, ◌+◌, ◌≤◌, ◌^◌, ◌&&◌, None, Some, false, length, IfErr, IfOk, OnOk};
 ghost use Rattle.cgl_model.specs.Valid.{IsValid};
-ghost use Rattle.cgl_mps.specs.Records.{is_kept, kept};
-ghost use Rattle.cgl_mps.specs.Decode.{decode, Deck, Fault};
+ghost use Rattle.cgl_text.specs.Seen.{words};
+ghost use Rattle.cgl_text.specs.Text.{lines_of};
+ghost use Rattle.cgl_mps.specs.Records.{is_kept, kept, record_of, section_after};
+ghost use Rattle.cgl_mps.specs.Faults.{fault_after};
+ghost use Rattle.cgl_mps.specs.Models.{model_of};
+ghost use Rattle.cgl_mps.specs.Decode.{decode, deck_limits, Deck, Fault};
 ghost use Rattle.cgl_mps.specs.Carried.{splits};
 
 use crate::carried::Carried;
 use crate::faults::fault_after;
 use crate::models::model_of;
 use crate::record::{Record, Section};
-use crate::records::{is_end, is_kept, record_of};
+use crate::records::{is_kept, record_of};
 use cgl_model::Model;
 use cgl_num::Memory;
 use cgl_text::Lines;
 use std::alloc::Global;
+use std::mem::replace;
 use thiserror::Error;
 
 /// Why a text gives no model.
@@ -30,16 +35,87 @@ pub enum DeckError {
     Memory,
 }
 
-/// These with the record, where it has fields.
-fn keep<'a>(alloc: Global, before: Carried<'a>, r: Record<'a>) -> Result<Carried<'a>, Memory>
-    requires { (is_kept r && splits before r) ≡ false }
-    ensures { IfOk result (λ next. next ≡ before.entry ++ kept (r.entry ∷ [])) }
+/// The record of line n, which has no fault after the records before it.
+fn sound_record<'a>(
+    alloc: Global,
+    bytes: &[u8],
+    lines: usize,
+    before: &Carried,
+    n: u64,
+    section: Section,
+    line: &'a [u8],
+) -> Result<Record<'a>, DeckError>
+    requires size { length bytes.now ≤ 2 ^ 30 + 1 }
+    requires count { lines ≡ length (lines_of bytes.now) }
+    ensures record { IfOk result (λ r. r ≡ record_of n (section_after section line.now) line.now) }
+    ensures sound { IfOk result (λ r. fault_after deck_limits bytes.now before.now r ≡ None) }
+    ensures fault { IfErr result (λ e. (e ≡ DeckError.Memory)
+        ⊎ ((kind : ℕ) × (e ≡ DeckError.Fault n kind)
+        × (fault_after deck_limits bytes.now before.now
+        (record_of n (section_after section line.now) line.now) ≡ Some kind))) }
 {
-    if is_kept(&r) {
-        before.with(alloc, r)
-    } else {
-        Ok(before)
+    let Ok(r) = record_of(alloc, n, section, line) else {
+        return Err(DeckError::Memory);
+    };
+    if let Some(kind) = fault_after(bytes, lines, before, &r) {
+        return Err(DeckError::Fault { line: n, kind });
     }
+    Ok(r)
+}
+
+/// Takes in the record, where it has fields. Where memory was refused, `before` is left without records.
+fn keep<'a>(alloc: Global, before: &mut Carried<'a>, r: Record<'a>) -> Result<(), DeckError>
+    requires { (is_kept r && splits before.old r) ≡ false }
+    ensures ok { OnOk result (before.new ≡ before.old ++ kept (r.entry ∷ [])) }
+    ensures memory { IfErr result (λ e. e ≡ DeckError.Memory) }
+{
+    if !is_kept(&r) {
+        return Ok(());
+    }
+    let Ok(next) = replace(before, Carried::new(alloc)).with(alloc, r) else {
+        return Err(DeckError::Memory);
+    };
+    *before = next;
+    Ok(())
+}
+
+fn whole_model(alloc: Global, before: &Carried) -> Result<Model, DeckError>
+    ensures ok { IfOk result (λ m. m ≡ model_of before.now) }
+    ensures memory { IfErr result (λ e. e ≡ DeckError.Memory) }
+{
+    match model_of(alloc, before) {
+        Ok(model) => Ok(model),
+        Err(_) => Err(DeckError::Memory),
+    }
+}
+
+/// The model that the lines mean. `before`, which has no records, is left with those that were read.
+fn model_from<'a>(
+    alloc: Global,
+    bytes: &[u8],
+    lines: &[&'a [u8]],
+    before: &mut Carried<'a>,
+) -> Result<Model, DeckError>
+    requires size { length bytes.now ≤ 2 ^ 30 + 1 }
+    requires lines { words lines.now ≡ lines_of bytes.now }
+    requires start { before.old ≡ [] }
+    ensures model { IfOk result (λ m. decode bytes.now ≡ Deck m) }
+    ensures fault { IfErr result (λ e. (e ≡ DeckError.Memory)
+        ⊎ ((line : ℕ) × (kind : ℕ) × (e ≡ DeckError.Fault line kind)
+        × (decode bytes.now ≡ Fault line kind))) }
+{
+    let mut section = Section::Start;
+    let mut n = 1;
+    for line in lines {
+        let r = sound_record(alloc, bytes, lines.len(), before, n, section, line)?;
+        section = r.section();
+        keep(alloc, before, r)?;
+        if section.is(Section::End) {
+            return whole_model(alloc, before);
+        }
+        n += 1;
+    }
+    Err(DeckError::Fault { line: n, kind: 10 })
 }
 
 /// The model that a deck means. `bytes` are a whole deck, or its first 2^30 + 1 bytes, which tell as
@@ -64,28 +140,5 @@ pub fn deck_of(alloc: Global, bytes: &[u8]) -> Result<Model, DeckError>
         return Err(DeckError::Memory);
     };
     let mut before = Carried::new(alloc);
-    let mut section = Section::Start;
-    let mut n = 1;
-    for line in lines.as_slice() {
-        let Ok(r) = record_of(alloc, n, section, line) else {
-            return Err(DeckError::Memory);
-        };
-        if let Some(kind) = fault_after(bytes, lines.len(), &before, &r) {
-            return Err(DeckError::Fault { line: n, kind });
-        }
-        section = r.section();
-        let ends = is_end(&r);
-        let Ok(next) = keep(alloc, before, r) else {
-            return Err(DeckError::Memory);
-        };
-        before = next;
-        if ends {
-            let Ok(model) = model_of(alloc, &before) else {
-                return Err(DeckError::Memory);
-            };
-            return Ok(model);
-        }
-        n += 1;
-    }
-    Err(DeckError::Fault { line: n, kind: 10 })
+    model_from(alloc, bytes, lines.as_slice(), &mut before)
 }
