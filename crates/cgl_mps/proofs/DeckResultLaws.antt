@@ -1,12 +1,13 @@
 -- The result of a whole file, from the front that was read.
-use Rattle.std.proofs.Common.{◌≡◌, refl, sym, ap, ap₂, ◌∙◌, ◌⊎◌, inl, inr, ℕ, ◌+◌, ◌^◌, List, take, Option, Some, None, IsSome, Ok, Err}
+use Rattle.std.proofs.Common.{◌≡◌, refl, sym, ap, ◌∙◌, subst, ◌⊎◌, inl, inr, ℕ, ◌+◌, ◌^◌, List, take, Option, Some, None, IsSome, Ok, Err}
 use Rattle.cgl_outside.specs.Shelf.{Held, file_of}
 use Rattle.cgl_model.specs.declared.mip.Model.{Model}
-use Rattle.cgl_mps.specs.declared.deck.DeckError.{DeckError}
-use Rattle.cgl_mps.specs.declared.deck.DeckError.TheVariants.{Fault as fault, Memory}
+use Rattle.std.specs.Prelude.{Result, IfErr, IsErrOf}
+use Rattle.cgl_outside.specs.declared.errors.ReadError.{ReadError}
+use Rattle.cgl_outside.specs.declared.errors.ReadError.TheVariants.{Fault as fault, ReadFault, Memory}
 use Rattle.cgl_mps.specs.Decode.{Outcome, Deck, Fault, decode}
 use Rattle.cgl_mps.specs.DeckResult.{result_of, deck_result, ResultsAreDecks, ResultsAreFaults, ResultsAreModels}
-use Rattle.cgl_outside.specs.Means.{Means}
+use Rattle.cgl_outside.specs.Means.{Means, MeansFault}
 use Rattle.cgl_mps.proofs.FrontLaws.{front_decides}
 use Rattle.cgl_mps.proofs.ValidLaws.{decks_valid}
 use Rattle.cgl_mps.proofs.DecimalLaws.{decks_decimal}
@@ -52,10 +53,26 @@ pub front_result : (held : Held) (name front : List ℕ) (o : Outcome)
     → ((file : List ℕ) → file_of held name ≡ Some file → front ≡ take (2 ^ 30 + 1) file) → (IsSome held → IsSome (file_of held name)) → decode front ≡ o → Means held name deck_result (result_of o)
 front_result held name front o is_front there is = by_file held name front o (file_of held name) refl is_front there is
 
-pub front_fault : (bytes : List ℕ) (e : DeckError) (line kind : ℕ) → e ≡ fault line kind
-    → ((e ≡ Memory) ⊎ ((l : ℕ) × (k : ℕ) × (e ≡ fault l k) × (decode bytes ≡ Fault l k))) → decode bytes ≡ Fault line kind
-front_fault bytes e line kind at (inl memory) = cc
-front_fault bytes e line kind at (inr found) =
-    let lines : found.0 ≡ line = cc (at, found.2) in
-    let kinds : found.1 ≡ kind = cc (at, found.2) in
-    found.3 ∙ ap₂ Fault lines kinds
+-- what a reader of the front tells, where it told a fault or want of memory
+
+abbrev pub Told : List ℕ → ReadError → Type 0
+Told bytes e = (e ≡ Memory) ⊎ ((line : ℕ) × (kind : ℕ) × (e ≡ fault line kind) × (decode bytes ≡ Fault line kind))
+
+told_fault : (held : Held) (name front : List ℕ) (e : ReadError)
+    → ((file : List ℕ) → file_of held name ≡ Some file → front ≡ take (2 ^ 30 + 1) file) → (IsSome held → IsSome (file_of held name)) → Told front e → MeansFault held name deck_result e
+told_fault held name front e is_front there (inl memory) = subst (MeansFault held name deck_result) (sym memory) tt
+told_fault held name front e is_front there (inr found) =
+    subst (MeansFault held name deck_result) (sym found.2) (front_result held name front (Fault found.0 found.1) is_front there found.3)
+
+pub told_faults : (held : Held) (name front : List ℕ) (r : Result Model ReadError)
+    → ((file : List ℕ) → file_of held name ≡ Some file → front ≡ take (2 ^ 30 + 1) file) → (IsSome held → IsSome (file_of held name)) → IfErr r (Told front) → IfErr r (MeansFault held name deck_result)
+told_faults held name front (Ok m) is_front there told = tt
+told_faults held name front (Err e) is_front there told = told_fault held name front e is_front there told
+
+told_read : (bytes : List ℕ) (e : ReadError) → Told bytes e → e ≡ ReadFault → ⊥
+told_read bytes e (inl memory) is = cc (memory, is)
+told_read bytes e (inr found) is = cc (found.2, is)
+
+pub told_no_read : (bytes : List ℕ) (r : Result Model ReadError) → IfErr r (Told bytes) → IsErrOf r ReadFault → ⊥
+told_no_read bytes (Ok m) told is = cc
+told_no_read bytes (Err e) told is = let same : e ≡ ReadFault = cc in told_read bytes e told same

@@ -118,3 +118,9 @@ value_cases Fr value = refl
 value_cases Mi value = refl
 value_cases Pl value = refl
 value_cases Bv value = refl
+
+pub value_taken : (kind : BoundKind) (value : Option Word) → needs_value kind ≡ true → is_value_of kind value ≡ unwrap_or (option_map (takes kind) (limit (unwrap_or value []))) false
+value_taken kind value e = value_cases kind value ∙ ap (λ b. cond b (unwrap_or (option_map (takes kind) (limit (unwrap_or value []))) false) (unwrap_or (option_map is_number value) true)) e
+
+pub value_spare : (kind : BoundKind) (value : Option Word) → needs_value kind ≡ false → is_value_of kind value ≡ unwrap_or (option_map is_number value) true
+value_spare kind value e = value_cases kind value ∙ ap (λ b. cond b (unwrap_or (option_map (takes kind) (limit (unwrap_or value []))) false) (unwrap_or (option_map is_number value) true)) e

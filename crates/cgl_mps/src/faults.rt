@@ -1,13 +1,14 @@
 //! The first fault of a line, after the records before it.
 
-ghost use Rattle.std.specs.Prelude.{◌≡◌, ◌∷◌, ◌+◌, ◌^◌, ◌≤◌, [], Some, false, length, nat_lt, not, option_map, true, unwrap_or};
+ghost use Rattle.std.specs.Prelude.{◌≡◌, ◌∷◌, ◌++◌, ◌+◌, ◌^◌, ◌≤◌, [], Some, bytes_eq, false, is_none, length, nat_le, nat_lt, not, option_map, true, unwrap_or};
 ghost use Rattle.std.specs.List.{list_any};
 ghost use Rattle.cgl_num.specs.NumberText.{is_number, limit};
-ghost use Rattle.cgl_text.specs.Text.{lines_of};
+ghost use Rattle.cgl_text.specs.Text.{is_one_of, lines_of};
 ghost use Rattle.cgl_mps.specs.Decode.{deck_limits};
-ghost use Rattle.cgl_mps.specs.Sections.{counts_after, pairs_of, senses};
+ghost use Rattle.cgl_mps.specs.declared.record.Section.TheVariants.{Bounds, Sense};
+ghost use Rattle.cgl_mps.specs.Sections.{bound_in, counting_pairs, counts_after, marker, pairs_of, row_names, senses};
 ghost use Rattle.cgl_text.specs.Conditions.{first_kind};
-ghost use Rattle.cgl_mps.specs.Faults.{bound_conditions, column_conditions, columns_conditions, conditions, data_conditions, each_pair, entry_conditions, fault_after, header_conditions, is_header_form, is_long, is_marker_form, is_misplaced, is_sense_form, is_split, is_value_of, needs, no_word, pair_conditions, rank, row_conditions, sense_conditions, set_conditions, takes, value_conditions};
+ghost use Rattle.cgl_mps.specs.Faults.{bound_conditions, column_conditions, columns_conditions, conditions, data_conditions, each_pair, entry_conditions, fault_after, header_conditions, is_header_form, is_long, is_marker_form, is_misplaced, is_split, is_value_of, names_row, needs, no_word, pair_conditions, rank, row_conditions, sense_conditions, set_conditions, takes, value_conditions};
 ghost use Rattle.cgl_text.specs.Seen.{word, words};
 ghost use Rattle.cgl_mps.specs.Found.{has_sense, is_behind};
 ghost use Rattle.cgl_mps.specs.Carried.{HasPairs};
@@ -85,12 +86,19 @@ fn is_misplaced(before: &[Record], r: &Record) -> bool
     !needs(section, before)
 }
 
+fn is_sense_header(r: &Record) -> bool
+    ensures { result ≡ is_header_form Sense r.now }
+{
+    let count = r.fields().len();
+    count == 1 || (count == 2 && is_sense(field(r, 1)))
+}
+
 fn is_header_form(r: &Record) -> bool
     ensures { result ≡ is_header_form r.now.section r.now }
 {
     match r.section() {
         Section::Name => true,
-        Section::Sense => r.fields().len() == 1 || (r.fields().len() == 2 && is_sense(field(r, 1))),
+        Section::Sense => is_sense_header(r),
         _ => r.fields().len() == 1,
     }
 }
@@ -150,13 +158,13 @@ fn sense_fault(before: &[Record], r: &Record) -> Option<u8>
 
 // ROWS
 
-fn row_fault(before: &Carried, r: &Record) -> Option<u8>
-    ensures { result ≡ first_kind (row_conditions deck_limits before.now r.now) }
+/// The first fault of a row's name.
+fn row_name_fault(before: &Carried, name: &[u8]) -> Option<u8>
+    ensures { result
+        ≡ first_kind ((bytes_eq name.now marker, 9) ∷ (is_long name.now, 11)
+        ∷ (is_one_of (row_names before.now) name.now, 7)
+        ∷ (nat_le deck_limits.rows (length (row_names before.now)), 12) ∷ []) }
 {
-    if row_in(r.fields()).is_none() {
-        return Some(3);
-    }
-    let name = field(r, 1);
     if same_bytes(name, b"'MARKER'") {
         return Some(9);
     }
@@ -170,6 +178,15 @@ fn row_fault(before: &Carried, r: &Record) -> Option<u8>
         return Some(12);
     }
     None
+}
+
+fn row_fault(before: &Carried, r: &Record) -> Option<u8>
+    ensures { result ≡ first_kind (row_conditions deck_limits before.now r.now) }
+{
+    if row_in(r.fields()).is_none() {
+        return Some(3);
+    }
+    row_name_fault(before, field(r, 1))
 }
 
 // COLUMNS
@@ -268,6 +285,15 @@ fn columns_fault(before: &Carried, r: &Record) -> Option<u8>
 
 // RHS and RANGES
 
+/// Whether a pair that counts, or an earlier one of the line, names the row.
+fn is_repeated(section: Section, before: &Carried, earlier: &[&[u8]], row: &[u8]) -> bool
+    requires { HasPairs section }
+    ensures { result
+        ≡ names_row (counting_pairs section before.now ++ pairs_of (words earlier.now)) row.now }
+{
+    has_value(section, before, row) || names_row(earlier, row)
+}
+
 fn pair_fault(
     section: Section,
     before: &Carried,
@@ -285,7 +311,7 @@ fn pair_fault(
     if counts && !has_row(before, row) {
         return Some(5);
     }
-    if counts && (has_value(section, before, row) || names_row(earlier, row)) {
+    if counts && is_repeated(section, before, earlier, row) {
         return Some(7);
     }
     if number(value).is_none() {
@@ -376,7 +402,6 @@ fn is_taken(kind: BoundKind, value: Option<&[u8]>) -> bool
     }
 }
 
-#[tactic(auto, using(crate::proofs::FaultLaws::value_cases))]
 fn is_value_of(kind: BoundKind, value: Option<&[u8]>) -> bool
     ensures { result ≡ is_value_of kind (option_map word value.entry) }
 {
@@ -398,6 +423,18 @@ fn value_fault(before: &Carried, counts: bool, bound: &Bound) -> Option<u8>
     None
 }
 
+/// The first fault of the bound that the fields are, or are not.
+fn formed_fault(before: &Carried, r: &Record) -> Option<u8>
+    ensures { result
+        ≡ first_kind ((is_none (bound_in r.now.fields), 3)
+        ∷ value_conditions before.now (counts_after Bounds before.now r.now) (bound_in r.now.fields)) }
+{
+    match bound_in(r.fields()) {
+        Some(bound) => value_fault(before, bound_counts(before, r), &bound),
+        None => Some(3),
+    }
+}
+
 fn bound_fault(before: &Carried, r: &Record) -> Option<u8>
     ensures { result ≡ first_kind (bound_conditions before.now r.now) }
 {
@@ -405,10 +442,7 @@ fn bound_fault(before: &Carried, r: &Record) -> Option<u8>
     if same_bytes(kind, b"SC") || same_bytes(kind, b"SI") {
         return Some(9);
     }
-    match bound_in(r.fields()) {
-        Some(bound) => value_fault(before, bound_counts(before, r), &bound),
-        None => Some(3),
-    }
+    formed_fault(before, r)
 }
 
 // a line

@@ -1,8 +1,7 @@
 //! The rows that the records of a deck mean.
 
-ghost use Rattle.std.specs.Prelude.{◌≡◌, IfOk, if◌then◌else◌, None, map, option_map};
-ghost use Rattle.cgl_mps.specs.Found.{is_data_of};
-ghost use Rattle.cgl_mps.specs.Sections.{row_in, rows, counting_pairs};
+ghost use Rattle.std.specs.Prelude.{◌≡◌, ◌∷◌, ◌++◌, [], IfOk, OnOk, map};
+ghost use Rattle.cgl_mps.specs.Sections.{rows, counting_pairs};
 ghost use Rattle.cgl_mps.specs.Models.{value_at, row_of};
 ghost use Rattle.cgl_mps.specs.Carried.{HasPairs};
 
@@ -47,15 +46,17 @@ fn row_of(alloc: Global, before: &Carried, kind: RowKind, name: &[u8]) -> Result
     })
 }
 
-/// What a data line of ROWS says.
-fn row_on<'a>(r: &Record<'a>) -> Option<(RowKind, &'a [u8])>
-    ensures { option_map (λ p. (p.0, p.1.now)) result
-        ≡ (if is_data_of Section.Rows r.now then row_in r.now.fields else None) }
+/// Appends the row that a line says, where it is a data line of ROWS.
+fn push_row(alloc: Global, found: &mut Seq<Row>, before: &Carried, r: &Record) -> Result<(), Memory>
+    ensures { OnOk result (found.new
+        ≡ found.old ++ map (row_of before.now) (rows (r.now ∷ []))) }
 {
-    if is_data_in(Section::Rows, r) {
-        row_in(r.fields())
-    } else {
-        None
+    if !is_data_in(Section::Rows, r) {
+        return Ok(());
+    }
+    match row_in(r.fields()) {
+        Some((kind, name)) => found.push(row_of(alloc, before, kind, name)?),
+        None => Ok(()),
     }
 }
 
@@ -64,9 +65,7 @@ pub(crate) fn rows_of(alloc: Global, before: &Carried) -> Result<Seq<Row>, Memor
 {
     let mut found = Seq::new(alloc);
     for r in before.records() {
-        if let Some((kind, name)) = row_on(r) {
-            found.push(row_of(alloc, before, kind, name)?)?;
-        }
+        push_row(alloc, &mut found, before, r)?;
     }
     Ok(found)
 }

@@ -1,9 +1,10 @@
 //! Decks on a shelf.
 
-ghost use Rattle.std.specs.Prelude.{◌≡◌, ◌⊎◌, ◌≤◌, IfOk, IfErr, IsErrOf, Ok};
+ghost use Rattle.std.specs.Prelude.{◌≡◌, ◌⊎◌, ◌+◌, ◌≤◌, ◌^◌, ℕ, length, IfOk, IfErr, IsErrOf, Ok};
 ghost use Rattle.cgl_outside.specs.Shelf.{Lacks, Rose};
 ghost use Rattle.cgl_model.specs.Valid.{IsValid};
 ghost use Rattle.cgl_model.specs.HasDecimals.{HasDecimals};
+ghost use Rattle.cgl_mps.specs.Decode.{decode, Deck, Fault};
 ghost use Rattle.cgl_mps.specs.DeckResult.{deck_result};
 ghost use Rattle.cgl_outside.specs.Means.{Means, MeansFault};
 
@@ -12,6 +13,22 @@ use cgl_model::Model;
 use cgl_outside::{FetchError, ReadError, Shelf, read_front};
 use cgl_text::MOST_BYTES;
 use std::alloc::Global;
+
+/// The model that the deck of these bytes means.
+fn model_in(alloc: Global, bytes: &[u8]) -> Result<Model, ReadError>
+    requires { length bytes.now ≤ 2 ^ 30 + 1 }
+    ensures model { IfOk result (λ m. decode bytes.now ≡ Deck m) }
+    ensures valid { IfOk result IsValid }
+    ensures fault { IfErr result (λ e. (e ≡ ReadError.Memory)
+        ⊎ ((line : ℕ) × (kind : ℕ) × (e ≡ ReadError.Fault line kind)
+        × (decode bytes.now ≡ Fault line kind))) }
+{
+    match deck_of(alloc, bytes) {
+        Ok(model) => Ok(model),
+        Err(DeckError::Fault { line, kind }) => Err(ReadError::Fault { line, kind }),
+        Err(DeckError::Memory) => Err(ReadError::Memory),
+    }
+}
 
 /// The model that the deck of this name on the shelf means. The file is read from its start, up to
 /// 2^30 + 1 bytes of it. The shelf's files stay as they were.
@@ -40,9 +57,5 @@ pub fn read_deck<S: Shelf>(alloc: Global, shelf: &mut S, name: &str) -> Result<M
         Err(FetchError::ReadFault) => return Err(ReadError::ReadFault),
         Err(FetchError::Memory) => return Err(ReadError::Memory),
     };
-    match deck_of(alloc, &bytes) {
-        Ok(model) => Ok(model),
-        Err(DeckError::Fault { line, kind }) => Err(ReadError::Fault { line, kind }),
-        Err(DeckError::Memory) => Err(ReadError::Memory),
-    }
+    model_in(alloc, &bytes)
 }

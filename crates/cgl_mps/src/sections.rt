@@ -1,6 +1,6 @@
 //! What one record, or a list of records, says.
 
-ghost use Rattle.std.specs.Prelude.{◌≡◌, ◌≤◌, ◌&&◌, length, map, not, option_map};
+ghost use Rattle.std.specs.Prelude.{◌≡◌, ◌≤◌, ◌&&◌, false, length, map, not, option_map, true};
 ghost use Rattle.std.specs.List.{list_any};
 ghost use Rattle.cgl_text.specs.Text.{is_one_of};
 ghost use Rattle.cgl_mps.specs.Records.{same_section, has_header, data_in};
@@ -191,24 +191,36 @@ pub(crate) fn needs_value(kind: BoundKind) -> bool
     }
 }
 
-fn bound_with<'a>(kind: BoundKind, needs_value: bool, fields: &[&'a [u8]]) -> Option<Bound<'a>>
-    ensures { result ≡ bound_with kind needs_value (words fields.now) }
+/// The bound of a kind that says nothing without a value, from the fields behind its kind.
+fn bound_valued<'a>(kind: BoundKind, fields: &[&'a [u8]]) -> Option<Bound<'a>>
+    ensures { result ≡ bound_with kind true (words fields.now) }
 {
     match fields {
-        [column] => {
-            if needs_value {
-                return None;
-            }
-            Some(Bound::new(kind, None, column, None))
-        }
-        [first, second] => {
-            if needs_value {
-                return Some(Bound::new(kind, None, first, Some(second)));
-            }
-            Some(Bound::new(kind, Some(first), second, None))
-        }
+        [column, value] => Some(Bound::new(kind, None, column, Some(value))),
         [set, column, value] => Some(Bound::new(kind, Some(set), column, Some(value))),
         _ => None,
+    }
+}
+
+/// The same where the kind says something without a value.
+fn bound_bare<'a>(kind: BoundKind, fields: &[&'a [u8]]) -> Option<Bound<'a>>
+    ensures { result ≡ bound_with kind false (words fields.now) }
+{
+    match fields {
+        [column] => Some(Bound::new(kind, None, column, None)),
+        [set, column] => Some(Bound::new(kind, Some(set), column, None)),
+        [set, column, value] => Some(Bound::new(kind, Some(set), column, Some(value))),
+        _ => None,
+    }
+}
+
+fn bound_with<'a>(kind: BoundKind, fields: &[&'a [u8]]) -> Option<Bound<'a>>
+    ensures { result ≡ bound_with kind (needs_value kind) (words fields.now) }
+{
+    if needs_value(kind) {
+        bound_valued(kind, fields)
+    } else {
+        bound_bare(kind, fields)
     }
 }
 
@@ -219,7 +231,7 @@ pub(crate) fn bound_in<'a>(fields: &[&'a [u8]]) -> Option<Bound<'a>>
     match fields {
         [] => None,
         [kind, others @ ..] => match bound_kind(kind) {
-            Some(kind) => bound_with(kind, needs_value(kind), others),
+            Some(kind) => bound_with(kind, others),
             None => None,
         },
     }
