@@ -14,6 +14,13 @@ pub last_or-push : {X : Type 0} (d : X) (xs : List X) (x : X) → last_or d (xs 
 last_or-push d [] x = refl
 last_or-push d (y ∷ xs) x = last_or-push y xs x
 
+last_or-option : {X : Type 0} (d : X) (o : Option X) (xs : List X) → last_or d (cons_option o xs) ≡ last_or (unwrap_or o d) xs
+last_or-option d None xs = refl
+last_or-option d (Some x) xs = refl
+
+pub last_or_set : {A X : Type 0} (f : A → Option X) (d : X) (x : A) (xs : List A) → last_or d (filter_map f (x ∷ xs)) ≡ last_or (unwrap_or (f x) d) (filter_map f xs)
+last_or_set f d x xs = last_or-option d (f x) (filter_map f xs)
+
 lower_cases : (below new : Bool) (l : List (Option Decimal)) (o : Option (Option Decimal))
     → last_or (cond (below || (new || false)) None (Some (whole (pos 0)))) (l ++ cons_option o []) ≡ unwrap_or o (cond (new && nothing l) None (last_or (cond below None (Some (whole (pos 0)))) l))
 lower_cases below new l (Some v) = last_or-push (cond (below || (new || false)) None (Some (whole (pos 0)))) l v

@@ -20,7 +20,7 @@ use crate::names::{
     bound_counts, counts_after, has_entry, has_row, has_value, is_new_column, is_split,
     lacks_column,
 };
-use crate::numbers::{is_number, limit, number};
+use crate::numbers::{is_number, limit_of, number};
 use crate::record::{BoundKind, Record, Section, field};
 use crate::records::is_kept;
 use crate::sections::{
@@ -392,11 +392,7 @@ fn is_taken(kind: BoundKind, value: Option<&[u8]>) -> bool
         ≡ unwrap_or
         (option_map (takes kind) (limit (unwrap_or (option_map word value.entry) []))) false }
 {
-    let text = match value {
-        Some(value) => value,
-        None => &[],
-    };
-    match limit(text) {
+    match limit_of(value) {
         Some(value) => takes(kind, &value),
         None => false,
     }

@@ -7,7 +7,7 @@ ghost use Rattle.cgl_mps.specs.Models.{makes_integer, lower_by, upper_by, is_upp
 
 use crate::bound::{Bound, Bounds};
 use crate::carried::Carried;
-use crate::numbers::limit;
+use crate::numbers::limit_of;
 use crate::record::BoundKind;
 use cgl_num::{Dec, Limit, Memory};
 use std::alloc::Global;
@@ -69,28 +69,34 @@ fn finite(value: Limit) -> Option<Dec>
 fn value_in(b: &Bound) -> Option<Dec>
     ensures { result ≡ value_in b.now }
 {
-    let text = match b.value() {
-        Some(text) => text,
-        None => &[],
-    };
-    match limit(text) {
+    match limit_of(b.value()) {
         Some(value) => finite(value),
         None => None,
+    }
+}
+
+fn is_upper(kind: BoundKind) -> bool
+    ensures { result ≡ is_upper kind }
+{
+    match kind {
+        BoundKind::Up | BoundKind::Ui => true,
+        _ => false,
+    }
+}
+
+fn is_below_zero(value: Option<Dec>) -> bool
+    ensures { result ≡ is_below_zero value }
+{
+    match value {
+        Some(d) => d.m() < 0,
+        None => false,
     }
 }
 
 fn is_negative_upper(b: &Bound) -> bool
     ensures { result ≡ (is_upper b.now.kind && is_below_zero (value_in b.now)) }
 {
-    let is_upper = match b.kind() {
-        BoundKind::Up | BoundKind::Ui => true,
-        _ => false,
-    };
-    let is_below_zero = match value_in(b) {
-        Some(d) => d.m() < 0,
-        None => false,
-    };
-    is_upper && is_below_zero
+    is_upper(b.kind()) && is_below_zero(value_in(b))
 }
 
 fn has_negative_upper(bounds: &[Bound]) -> bool
@@ -112,26 +118,24 @@ fn lower_unset(bounds: &[Bound]) -> Option<Dec>
     }
 }
 
+#[tactic(auto, using(crate::proofs::BoundLaws::last_or_set))]
 pub(crate) fn lower_of(bounds: &[Bound]) -> Option<Dec>
     ensures { result ≡ lower_of bounds.now }
 {
     let mut lower = lower_unset(bounds);
     for b in bounds {
-        if let Some(set) = lower_by(b.kind(), value_in(b)) {
-            lower = set;
-        }
+        lower = lower_by(b.kind(), value_in(b)).unwrap_or(lower);
     }
     lower
 }
 
+#[tactic(auto, using(crate::proofs::BoundLaws::last_or_set))]
 pub(crate) fn upper_of(bounds: &[Bound]) -> Option<Dec>
     ensures { result ≡ upper_of bounds.now }
 {
     let mut upper = None;
     for b in bounds {
-        if let Some(set) = upper_by(b.kind(), value_in(b)) {
-            upper = set;
-        }
+        upper = upper_by(b.kind(), value_in(b)).unwrap_or(upper);
     }
     upper
 }

@@ -1,7 +1,8 @@
 //! Numbers and bounds in the fields of a deck.
 
-ghost use Rattle.std.specs.Prelude.{◌≡◌};
+ghost use Rattle.std.specs.Prelude.{◌≡◌, [], option_map, unwrap_or};
 ghost use Rattle.cgl_num.specs.NumberText.{is_number, limit, number};
+ghost use Rattle.cgl_text.specs.Seen.{word};
 
 use cgl_num::{Dec, is_number_text};
 
@@ -22,6 +23,16 @@ pub(crate) fn limit(text: &[u8]) -> Option<cgl_num::Limit>
     match Dec::read_bound(text) {
         Ok(value) => Some(value),
         Err(_) => None,
+    }
+}
+
+/// The same, where no text means what an empty one does.
+pub(crate) fn limit_of(text: Option<&[u8]>) -> Option<cgl_num::Limit>
+    ensures { result ≡ limit (unwrap_or (option_map word text.entry) []) }
+{
+    match text {
+        Some(text) => limit(text),
+        None => limit(&[]),
     }
 }
 
