@@ -1,7 +1,7 @@
 //! The records so far, with what is looked for in them at hand.
 
-ghost use Rattle.std.specs.Prelude.{◌≡◌, ◌∷◌, ◌++◌, [], IfOk, false, if◌then◌else◌};
-ghost use Rattle.cgl_mps.specs.declared.record.Section.TheVariants.{Columns, Bounds};
+ghost use Rattle.std.specs.Prelude.{◌≡◌, ◌∷◌, ◌++◌, [], IfOk, OnOk, false, if◌then◌else◌};
+ghost use Rattle.cgl_mps.specs.declared.record.Section.TheVariants.{Columns, Rhs, Ranges, Bounds};
 ghost use Rattle.cgl_mps.specs.Records.{data_in};
 ghost use Rattle.cgl_mps.specs.Sections.{row_names};
 ghost use Rattle.cgl_mps.specs.Found.{is_data_of};
@@ -16,16 +16,23 @@ use cgl_text::Names;
 use std::alloc::Global;
 use std::marker::Model;
 
+/// The names of the rows, and what counts of RHS, RANGES and BOUNDS. Lines are taken in in place, and
+/// want of memory leaves a part of one.
+#[derive(Drop)]
+struct Sets<'a> {
+    rows: Names<'a>,
+    rhs: ReadPairs<'a>,
+    ranges: ReadPairs<'a>,
+    bounds: ReadBounds<'a>,
+}
+
 /// The kept records, and beside them the names of the rows, the columns, and what counts of RHS,
 /// RANGES and BOUNDS, so that a line looks at no earlier line again.
 #[derive(Drop)]
 pub(crate) struct Carried<'a> {
     records: Vec<Record<'a>>,
-    rows: Names<'a>,
     columns: ReadColumns<'a>,
-    rhs: ReadPairs<'a>,
-    ranges: ReadPairs<'a>,
-    bounds: ReadBounds<'a>,
+    sets: Sets<'a>,
 }
 
 impl<'a> Model for Carried<'a> {
@@ -37,23 +44,59 @@ impl<'a> Model for Carried<'a> {
 
     ghost view = { λ it. it.records.items };
 
-    ghost invariant = { λ it. IsCarried it.records.items it.rows it.columns it.rhs it.ranges it.bounds };
+    ghost invariant = { λ it. IsCarried it.records.items it.sets.rows it.columns it.sets.rhs it.sets.ranges it.sets.bounds };
 }
 
-/// The names behind one more line, which may name a row.
-fn rows_after<'a>(rows: Names<'a>, r: &Record<'a>) -> Result<Names<'a>, Memory>
-    ensures { IfOk result (λ next. next ≡ rows.entry ++ row_names (r.now ∷ [])) }
+/// Takes in one more line, which may name a row.
+fn add_row<'a>(rows: &mut Names<'a>, r: &Record<'a>) -> Result<(), Memory>
+    ensures { OnOk result (rows.new ≡ rows.old ++ row_names (r.now ∷ [])) }
 {
-    let mut rows = rows;
     if !is_data_in(Section::Rows, r) {
-        return Ok(rows);
+        return Ok(());
     }
     match row_in(r.fields()) {
-        Some((_, name)) => {
-            rows.push(name)?;
-            Ok(rows)
-        }
-        None => Ok(rows),
+        Some((_, name)) => rows.push(name),
+        None => Ok(()),
+    }
+}
+
+fn add_pairs<'a>(section: Section, read: &mut ReadPairs<'a>, r: &Record<'a>) -> Result<(), Memory>
+    ensures { OnOk result (read.new
+        ≡ (if is_data_of section r.now then after_pairs section read.old r.now else read.old)) }
+{
+    if is_data_in(section, r) {
+        read.add(section, r)
+    } else {
+        Ok(())
+    }
+}
+
+fn add_bound<'a>(read: &mut ReadBounds<'a>, r: &Record<'a>) -> Result<(), Memory>
+    ensures { OnOk result (read.new
+        ≡ (if is_data_of Bounds r.now then after_bound read.old r.now else read.old)) }
+{
+    if is_data_in(Section::Bounds, r) {
+        read.add(r)
+    } else {
+        Ok(())
+    }
+}
+
+impl<'a> Sets<'a> {
+    /// Takes in one more line.
+    fn add(&mut self, r: &Record<'a>) -> Result<(), Memory>
+        ensures rows { OnOk result (self.new.rows ≡ self.old.rows ++ row_names (r.now ∷ [])) }
+        ensures rhs { OnOk result (self.new.rhs
+            ≡ (if is_data_of Rhs r.now then after_pairs Rhs self.old.rhs r.now else self.old.rhs)) }
+        ensures ranges { OnOk result (self.new.ranges
+            ≡ (if is_data_of Ranges r.now then after_pairs Ranges self.old.ranges r.now else self.old.ranges)) }
+        ensures bounds { OnOk result (self.new.bounds
+            ≡ (if is_data_of Bounds r.now then after_bound self.old.bounds r.now else self.old.bounds)) }
+    {
+        add_row(&mut self.rows, r)?;
+        add_pairs(Section::Rhs, &mut self.rhs, r)?;
+        add_pairs(Section::Ranges, &mut self.ranges, r)?;
+        add_bound(&mut self.bounds, r)
     }
 }
 
@@ -72,43 +115,19 @@ fn columns_after<'a>(
     }
 }
 
-fn pairs_after<'a>(
-    section: Section,
-    read: ReadPairs<'a>,
-    r: &Record<'a>,
-) -> Result<ReadPairs<'a>, Memory>
-    ensures { IfOk result (λ next. next
-        ≡ (if is_data_of section r.now then after_pairs section read.entry r.now else read.entry)) }
-{
-    if is_data_in(section, r) {
-        read.after(section, r)
-    } else {
-        Ok(read)
-    }
-}
-
-fn bounds_after<'a>(read: ReadBounds<'a>, r: &Record<'a>) -> Result<ReadBounds<'a>, Memory>
-    ensures { IfOk result (λ next. next
-        ≡ (if is_data_of Bounds r.now then after_bound read.entry r.now else read.entry)) }
-{
-    if is_data_in(Section::Bounds, r) {
-        read.after(r)
-    } else {
-        Ok(read)
-    }
-}
-
 impl<'a> Carried<'a> {
     pub(crate) fn new(alloc: Global) -> Carried<'a>
         ensures { result ≡ [] }
     {
         Carried {
             records: Vec::new(alloc),
-            rows: Names::new(alloc),
             columns: ReadColumns::new(alloc),
-            rhs: ReadPairs::new(alloc),
-            ranges: ReadPairs::new(alloc),
-            bounds: ReadBounds::new(alloc),
+            sets: Sets {
+                rows: Names::new(alloc),
+                rhs: ReadPairs::new(alloc),
+                ranges: ReadPairs::new(alloc),
+                bounds: ReadBounds::new(alloc),
+            },
         }
     }
 
@@ -122,7 +141,7 @@ impl<'a> Carried<'a> {
     pub(crate) fn rows(&self) -> &Names<'a>
         ensures { result.now ≡ row_names self.now }
     {
-        &self.rows
+        &self.sets.rows
     }
 
     pub(crate) fn columns(&self) -> &ReadColumns<'a>
@@ -137,15 +156,15 @@ impl<'a> Carried<'a> {
         ensures { IsPairs section (data_in section self.now) result.now }
     {
         match section {
-            Section::Ranges => &self.ranges,
-            _ => &self.rhs,
+            Section::Ranges => &self.sets.ranges,
+            _ => &self.sets.rhs,
         }
     }
 
     pub(crate) fn bounds(&self) -> &ReadBounds<'a>
         ensures { IsBounds (data_in Bounds self.now) result.now }
     {
-        &self.bounds
+        &self.sets.bounds
     }
 
     /// These with one record more, which goes back to no column that has ended.
@@ -155,27 +174,18 @@ impl<'a> Carried<'a> {
     {
         let Carried {
             mut records,
-            rows,
             columns,
-            rhs,
-            ranges,
-            bounds,
+            mut sets,
         } = self;
-        let rows = rows_after(rows, &r)?;
         let columns = columns_after(alloc, columns, &r)?;
-        let rhs = pairs_after(Section::Rhs, rhs, &r)?;
-        let ranges = pairs_after(Section::Ranges, ranges, &r)?;
-        let bounds = bounds_after(bounds, &r)?;
+        sets.add(&r)?;
         let Ok(()) = records.push(r) else {
             return Err(Memory);
         };
         Ok(Carried {
             records,
-            rows,
             columns,
-            rhs,
-            ranges,
-            bounds,
+            sets,
         })
     }
 }

@@ -1,6 +1,6 @@
 //! The lines so far of RHS, of RANGES and of BOUNDS: the set of the first, and what counts.
 
-ghost use Rattle.std.specs.Prelude.{◌≡◌, ◌++◌, None, [], IfOk, OnOk, option_map};
+ghost use Rattle.std.specs.Prelude.{◌≡◌, ◌++◌, None, [], OnOk, option_map};
 ghost use Rattle.std.specs.List.{cons_option};
 ghost use Rattle.cgl_mps.specs.declared.record.Section.TheVariants.{Bounds as BoundLines};
 ghost use Rattle.cgl_mps.specs.Sections.{bound_in, same_set, set_in};
@@ -87,21 +87,17 @@ impl<'a> ReadPairs<'a> {
         counts(self.set, set_in(section, r))
     }
 
-    /// These behind one more line of the section.
-    pub(crate) fn after(self, section: Section, r: &Record<'a>) -> Result<ReadPairs<'a>, Memory>
-        ensures { IfOk result (λ read. read ≡ after_pairs section self.entry r.now) }
+    /// Takes in one more line of the section.
+    pub(crate) fn add(&mut self, section: Section, r: &Record<'a>) -> Result<(), Memory>
+        ensures { OnOk result (self.new ≡ after_pairs section self.old r.now) }
     {
-        let ReadPairs { set, mut pairs } = self;
         let own = set_in(section, r);
-        let counts = counts(set, own);
-        let set = counting_set(set, own);
-        if counts {
-            pairs.push_fields(set_fields(r))?;
+        let counts = counts(self.set, own);
+        self.set = Some(counting_set(self.set, own));
+        if !counts {
+            return Ok(());
         }
-        Ok(ReadPairs {
-            set: Some(set),
-            pairs,
-        })
+        self.pairs.push_fields(set_fields(r))
     }
 }
 
@@ -157,20 +153,16 @@ impl<'a> ReadBounds<'a> {
         counts(self.set, set_in(Section::Bounds, r))
     }
 
-    /// These behind one more line of BOUNDS.
-    pub(crate) fn after(self, r: &Record<'a>) -> Result<ReadBounds<'a>, Memory>
-        ensures { IfOk result (λ read. read ≡ after_bound self.entry r.now) }
+    /// Takes in one more line of BOUNDS.
+    pub(crate) fn add(&mut self, r: &Record<'a>) -> Result<(), Memory>
+        ensures { OnOk result (self.new ≡ after_bound self.old r.now) }
     {
-        let ReadBounds { set, mut bounds } = self;
         let own = set_in(Section::Bounds, r);
-        let counts = counts(set, own);
-        let set = counting_set(set, own);
-        if counts {
-            push_bound(&mut bounds, r)?;
+        let counts = counts(self.set, own);
+        self.set = Some(counting_set(self.set, own));
+        if !counts {
+            return Ok(());
         }
-        Ok(ReadBounds {
-            set: Some(set),
-            bounds,
-        })
+        push_bound(&mut self.bounds, r)
     }
 }

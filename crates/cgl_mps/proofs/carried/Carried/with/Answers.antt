@@ -6,6 +6,7 @@ use Rattle.cgl_mps.proofs.carried.Carried.with.Goals as goal
 pub invariant_of-result : goal.invariant_of-result
 invariant_of-result c =
     let was = c.self.inside in
-    carried_on was.records.items c.push.new.self.items c.args.r was.rows c.in_ok-rows.rows was.columns c.in_ok-columns.columns was.rhs c.in_ok-rhs.rhs was.ranges c.in_ok-ranges.ranges was.bounds c.in_ok-bounds.bounds c.self.invariant
+    let sets = c.add.new.self in
+    carried_on was.records.items c.push.new.self.items c.args.r was.sets.rows sets.rows was.columns c.in_ok-columns.columns was.sets.rhs sets.rhs was.sets.ranges sets.ranges was.sets.bounds sets.bounds c.self.invariant
     (ap (λ records. splits records c.args.r) c.self.view_is ∙ c.requires)
-    c.in-Ok.ensures.items c.in_ok-rows.ensures c.in_ok-columns.ensures c.in_ok-rhs.ensures c.in_ok-ranges.ensures c.in_ok-bounds.ensures
+    c.in-Ok.ensures.items c.in_ok-add.ensures.rows c.in_ok-columns.ensures c.in_ok-add.ensures.rhs c.in_ok-add.ensures.ranges c.in_ok-add.ensures.bounds
