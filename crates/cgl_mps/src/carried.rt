@@ -5,7 +5,7 @@ ghost use Rattle.cgl_mps.specs.declared.record.Section.TheVariants.{Columns, Rhs
 ghost use Rattle.cgl_mps.specs.Records.{data_in};
 ghost use Rattle.cgl_mps.specs.Sections.{row_names};
 ghost use Rattle.cgl_mps.specs.Found.{is_data_of};
-ghost use Rattle.cgl_mps.specs.Carried.{after_bound, after_line, after_pairs, HasPairs, IsBounds, IsColumns, IsPairs, splits};
+ghost use Rattle.cgl_mps.specs.Carried.{after_bound, after_line, after_pairs, HasPairs, IsBounds, IsCarried, IsColumns, IsPairs, splits};
 
 use crate::columns::ReadColumns;
 use crate::record::{Record, Section};
@@ -16,23 +16,22 @@ use cgl_text::Names;
 use std::alloc::Global;
 use std::marker::Model;
 
-/// The names of the rows, and what counts of RHS, RANGES and BOUNDS. Lines are taken in in place, and
-/// want of memory leaves a part of one.
+/// The kept records, and beside them the names of the rows, the columns, and what counts of RHS,
+/// RANGES and BOUNDS. A record is taken in in place, and want of memory leaves a part of it.
 #[derive(Drop)]
-struct Sets<'a> {
+struct Parts<'a> {
+    records: Vec<Record<'a>>,
     rows: Names<'a>,
+    columns: ReadColumns<'a>,
     rhs: ReadPairs<'a>,
     ranges: ReadPairs<'a>,
     bounds: ReadBounds<'a>,
 }
 
-/// The kept records, and beside them the names of the rows, the columns, and what counts of RHS,
-/// RANGES and BOUNDS, so that a line looks at no earlier line again.
+/// The records so far with what they say, so that a line looks at no earlier line again.
 #[derive(Drop)]
 pub(crate) struct Carried<'a> {
-    records: Vec<Record<'a>>,
-    columns: ReadColumns<'a>,
-    sets: Sets<'a>,
+    parts: Parts<'a>,
 }
 
 impl<'a> Model for Carried<'a> {
@@ -42,9 +41,9 @@ impl<'a> Model for Carried<'a> {
 
     ghost Value = { List Line };
 
-    ghost view = { λ it. it.records.items };
+    ghost view = { λ it. it.parts.records.items };
 
-    ghost invariant = { λ it. IsCarried it.records.items it.sets.rows it.columns it.sets.rhs it.sets.ranges it.sets.bounds };
+    ghost invariant = { λ it. IsCarried it.parts.records.items it.parts.rows it.parts.columns it.parts.rhs it.parts.ranges it.parts.bounds };
 }
 
 /// Takes in one more line, which may name a row.
@@ -82,10 +81,28 @@ fn add_bound<'a>(read: &mut ReadBounds<'a>, r: &Record<'a>) -> Result<(), Memory
     }
 }
 
-impl<'a> Sets<'a> {
-    /// Takes in one more line.
-    fn add(&mut self, r: &Record<'a>) -> Result<(), Memory>
+fn add_column<'a>(
+    alloc: Global,
+    columns: &mut ReadColumns<'a>,
+    r: &Record<'a>,
+) -> Result<(), Memory>
+    ensures { OnOk result (columns.new
+        ≡ (if is_data_of Columns r.now then after_line columns.old r.now else columns.old)) }
+{
+    if is_data_in(Section::Columns, r) {
+        columns.add(alloc, r)
+    } else {
+        Ok(())
+    }
+}
+
+impl<'a> Parts<'a> {
+    /// Takes in what one more record says, and not the record.
+    fn add(&mut self, alloc: Global, r: &Record<'a>) -> Result<(), Memory>
+        ensures records { OnOk result (self.new.records ≡ self.old.records) }
         ensures rows { OnOk result (self.new.rows ≡ self.old.rows ++ row_names (r.now ∷ [])) }
+        ensures columns { OnOk result (self.new.columns
+            ≡ (if is_data_of Columns r.now then after_line self.old.columns r.now else self.old.columns)) }
         ensures rhs { OnOk result (self.new.rhs
             ≡ (if is_data_of Rhs r.now then after_pairs Rhs self.old.rhs r.now else self.old.rhs)) }
         ensures ranges { OnOk result (self.new.ranges
@@ -94,24 +111,24 @@ impl<'a> Sets<'a> {
             ≡ (if is_data_of Bounds r.now then after_bound self.old.bounds r.now else self.old.bounds)) }
     {
         add_row(&mut self.rows, r)?;
+        add_column(alloc, &mut self.columns, r)?;
         add_pairs(Section::Rhs, &mut self.rhs, r)?;
         add_pairs(Section::Ranges, &mut self.ranges, r)?;
         add_bound(&mut self.bounds, r)
     }
-}
 
-fn columns_after<'a>(
-    alloc: Global,
-    columns: ReadColumns<'a>,
-    r: &Record<'a>,
-) -> Result<ReadColumns<'a>, Memory>
-    ensures { IfOk result (λ next. next
-        ≡ (if is_data_of Columns r.now then after_line columns.entry r.now else columns.entry)) }
-{
-    if is_data_in(Section::Columns, r) {
-        columns.after(alloc, r)
-    } else {
-        Ok(columns)
+    /// Takes in one more record.
+    fn push(&mut self, alloc: Global, r: Record<'a>) -> Result<(), Memory>
+        requires good { IsCarried self.old.records.items self.old.rows self.old.columns self.old.rhs self.old.ranges self.old.bounds }
+        requires no_split { splits self.old.records.items r ≡ false }
+        ensures records { OnOk result (self.new.records.items ≡ self.old.records.items ++ r.entry ∷ []) }
+        ensures good { OnOk result (IsCarried self.new.records.items self.new.rows self.new.columns self.new.rhs self.new.ranges self.new.bounds) }
+    {
+        self.add(alloc, &r)?;
+        let Ok(()) = self.records.push(r) else {
+            return Err(Memory);
+        };
+        Ok(())
     }
 }
 
@@ -120,10 +137,10 @@ impl<'a> Carried<'a> {
         ensures { result ≡ [] }
     {
         Carried {
-            records: Vec::new(alloc),
-            columns: ReadColumns::new(alloc),
-            sets: Sets {
+            parts: Parts {
+                records: Vec::new(alloc),
                 rows: Names::new(alloc),
+                columns: ReadColumns::new(alloc),
                 rhs: ReadPairs::new(alloc),
                 ranges: ReadPairs::new(alloc),
                 bounds: ReadBounds::new(alloc),
@@ -134,20 +151,20 @@ impl<'a> Carried<'a> {
     pub(crate) fn records(&self) -> &[Record<'a>]
         ensures { result.now ≡ self.now }
     {
-        self.records.as_slice()
+        self.parts.records.as_slice()
     }
 
     /// The names of the rows.
     pub(crate) fn rows(&self) -> &Names<'a>
         ensures { result.now ≡ row_names self.now }
     {
-        &self.sets.rows
+        &self.parts.rows
     }
 
     pub(crate) fn columns(&self) -> &ReadColumns<'a>
         ensures { IsColumns (data_in Columns self.now) result.now }
     {
-        &self.columns
+        &self.parts.columns
     }
 
     /// What the lines of RHS or RANGES say.
@@ -156,15 +173,15 @@ impl<'a> Carried<'a> {
         ensures { IsPairs section (data_in section self.now) result.now }
     {
         match section {
-            Section::Ranges => &self.sets.ranges,
-            _ => &self.sets.rhs,
+            Section::Ranges => &self.parts.ranges,
+            _ => &self.parts.rhs,
         }
     }
 
     pub(crate) fn bounds(&self) -> &ReadBounds<'a>
         ensures { IsBounds (data_in Bounds self.now) result.now }
     {
-        &self.sets.bounds
+        &self.parts.bounds
     }
 
     /// These with one record more, which goes back to no column that has ended.
@@ -172,20 +189,8 @@ impl<'a> Carried<'a> {
         requires { splits self r ≡ false }
         ensures { IfOk result (λ next. next ≡ self.entry ++ r.entry ∷ []) }
     {
-        let Carried {
-            mut records,
-            columns,
-            mut sets,
-        } = self;
-        let columns = columns_after(alloc, columns, &r)?;
-        sets.add(&r)?;
-        let Ok(()) = records.push(r) else {
-            return Err(Memory);
-        };
-        Ok(Carried {
-            records,
-            columns,
-            sets,
-        })
+        let Carried { mut parts } = self;
+        parts.push(alloc, r)?;
+        Ok(Carried { parts })
     }
 }

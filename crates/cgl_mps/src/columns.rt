@@ -15,6 +15,7 @@ use cgl_num::Memory;
 use cgl_text::{Names, same_bytes};
 use std::alloc::Global;
 use std::marker::Model;
+use std::mem::replace;
 
 /// A column: its name, whether a marker makes it integer, and its pairs.
 #[derive(Drop)]
@@ -269,7 +270,7 @@ impl<'a> ReadColumns<'a> {
     }
 
     /// These behind one more data line of COLUMNS.
-    pub(crate) fn after(self, alloc: Global, r: &Record<'a>) -> Result<ReadColumns<'a>, Memory>
+    fn after(self, alloc: Global, r: &Record<'a>) -> Result<ReadColumns<'a>, Memory>
         ensures { IfOk result (λ columns. columns ≡ after_line self.entry r.now) }
     {
         if is_marker(r) {
@@ -279,6 +280,15 @@ impl<'a> ReadColumns<'a> {
             return self.after_more(r);
         }
         self.after_new(alloc, r)
+    }
+
+    /// Takes in one more data line of COLUMNS. Want of memory leaves no columns.
+    pub(crate) fn add(&mut self, alloc: Global, r: &Record<'a>) -> Result<(), Memory>
+        ensures { OnOk result (self.new ≡ after_line self.old r.now) }
+    {
+        let before = replace(self, ReadColumns::new(alloc));
+        *self = before.after(alloc, r)?;
+        Ok(())
     }
 
     /// Those that have ended and the one that goes on.
