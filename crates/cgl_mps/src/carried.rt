@@ -97,6 +97,20 @@ fn add_column<'a>(
 }
 
 impl<'a> Parts<'a> {
+    fn new(alloc: Global) -> Parts<'a>
+        ensures good { IsCarried result.records.items result.rows result.columns result.rhs result.ranges result.bounds }
+        ensures none { result.records.items ≡ [] }
+    {
+        Parts {
+            records: Vec::new(alloc),
+            rows: Names::new(alloc),
+            columns: ReadColumns::new(alloc),
+            rhs: ReadPairs::new(alloc),
+            ranges: ReadPairs::new(alloc),
+            bounds: ReadBounds::new(alloc),
+        }
+    }
+
     /// Takes in what one more record says, and not the record.
     fn add(&mut self, alloc: Global, r: &Record<'a>) -> Result<(), Memory>
         ensures records { OnOk result (self.new.records ≡ self.old.records) }
@@ -137,14 +151,7 @@ impl<'a> Carried<'a> {
         ensures { result ≡ [] }
     {
         Carried {
-            parts: Parts {
-                records: Vec::new(alloc),
-                rows: Names::new(alloc),
-                columns: ReadColumns::new(alloc),
-                rhs: ReadPairs::new(alloc),
-                ranges: ReadPairs::new(alloc),
-                bounds: ReadBounds::new(alloc),
-            },
+            parts: Parts::new(alloc),
         }
     }
 
@@ -184,13 +191,16 @@ impl<'a> Carried<'a> {
         &self.parts.bounds
     }
 
-    /// These with one record more, which goes back to no column that has ended.
-    pub(crate) fn with(self, alloc: Global, r: Record<'a>) -> Result<Carried<'a>, Memory>
-        requires { splits self r ≡ false }
-        ensures { IfOk result (λ next. next ≡ self.entry ++ r.entry ∷ []) }
+    /// Takes in one more record, which goes back to no column that has ended. Want of memory leaves
+    /// no records.
+    pub(crate) fn push(&mut self, alloc: Global, r: Record<'a>) -> Result<(), Memory>
+        requires { splits self.old r ≡ false }
+        ensures { OnOk result (self.new ≡ self.old ++ r.entry ∷ []) }
     {
-        let Carried { mut parts } = self;
-        parts.push(alloc, r)?;
-        Ok(Carried { parts })
+        let Ok(()) = self.parts.push(alloc, r) else {
+            self.parts = Parts::new(alloc);
+            return Err(Memory);
+        };
+        Ok(())
     }
 }

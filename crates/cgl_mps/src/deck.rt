@@ -17,7 +17,6 @@ use cgl_model::Model;
 use cgl_num::Memory;
 use cgl_text::Lines;
 use std::alloc::Global;
-use std::mem::replace;
 use thiserror::Error;
 
 /// Why a text gives no model.
@@ -72,11 +71,10 @@ fn keep<'a>(alloc: Global, before: &mut Carried<'a>, r: Record<'a>) -> Result<()
     if !is_kept(&r) {
         return Ok(());
     }
-    let Ok(next) = replace(before, Carried::new(alloc)).with(alloc, r) else {
-        return Err(DeckError::Memory);
-    };
-    *before = next;
-    Ok(())
+    match before.push(alloc, r) {
+        Ok(()) => Ok(()),
+        Err(_) => Err(DeckError::Memory),
+    }
 }
 
 fn whole_model(alloc: Global, before: &Carried) -> Result<Model, DeckError>
