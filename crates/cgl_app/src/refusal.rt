@@ -1,5 +1,5 @@
 /// A file of a command, or the output.
-#[derive(Clone, Copy, Debug, PartialEq, Eq)]
+#[derive(Clone, Copy)]
 pub enum File {
     /// The deck that is read.
     Model,
@@ -14,7 +14,7 @@ pub enum File {
 }
 
 /// Why a command did not do its work.
-#[derive(Clone, Copy, Debug, PartialEq, Eq)]
+#[derive(Clone, Copy)]
 pub enum Refusal {
     /// The words are of no command. Status 2.
     Usage,
