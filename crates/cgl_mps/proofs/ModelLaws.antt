@@ -20,12 +20,6 @@ value_case (Some p) = refl
 pub value_read : (pairs : List Pair) (row : Word) → value_at pairs row ≡ option_and_then number (value_for pairs row)
 value_read pairs row = value_case (find (λ (p : Pair). bytes_eq row p.0) pairs)
 
-pub value_found : (pairs : List Pair) (row value : Word) → value_for pairs row ≡ Some value → value_at pairs row ≡ number value
-value_found pairs row value e = value_read pairs row ∙ ap (option_and_then number) e
-
-pub value_missing : (pairs : List Pair) (row : Word) → value_for pairs row ≡ None → value_at pairs row ≡ None
-value_missing pairs row e = value_read pairs row ∙ ap (option_and_then number) e
-
 -- markers before a column's first record
 
 pub before_first-first : {X : Type 0} (p : X → Bool) (x : X) (xs : List X) → before_first p (x ∷ xs) ≡ cond (p x) [] (x ∷ before_first p xs)

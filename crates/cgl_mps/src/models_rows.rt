@@ -17,6 +17,7 @@ use cgl_num::{Dec, Memory};
 use std::alloc::Global;
 
 /// The value of the pair that names the row.
+#[tactic(auto, using(crate::proofs::ModelLaws::value_read))]
 fn value_among(pairs: &Pairs, row: &[u8]) -> Option<Dec>
     ensures { result ≡ value_at pairs.now row.now }
 {
