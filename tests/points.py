@@ -68,10 +68,10 @@ def is_too_fine(values):
     return denominator > 2**62 or any(abs(it * denominator) >= 2**100 for it in values)
 
 
-def kind(before, line):
-    """The kind of the first fault of a line behind these, or 0."""
-    parts = fields(line)
-    if len(line) > 4096:
+def kind(lines, at):
+    """The kind of the first fault of the line at this place, or 0."""
+    parts = fields(lines[at])
+    if len(lines[at]) > 4096:
         return 11
     if not parts:
         return 0
@@ -79,7 +79,7 @@ def kind(before, line):
         return 3
     if parts[0] not in COLUMNS:
         return 6
-    earlier = [fields(it) for it in before]
+    earlier = [fields(it) for it in lines[:at]]
     if parts[0] in [it[0] for it in earlier if it]:
         return 14
     if value(parts[1]) is None:
@@ -91,9 +91,10 @@ def plain(file):
     lines = file.split(b"\n")
     if lines[-1] == b"":
         lines.pop()
-    for at, line in enumerate(lines):
-        if kind(lines[:at], line):
-            return f"line {at + 1} kind {kind(lines[:at], line)}"
+    for at in range(len(lines)):
+        found = kind(lines, at)
+        if found:
+            return f"line {at + 1} kind {found}"
     values = {name: value(text) for name, text in filter(None, map(fields, lines))}
     return " ".join(str(values.get(it, 0)) for it in COLUMNS)
 
