@@ -191,6 +191,15 @@ negative : (e : ℤ) → lt_z e (pos 0) ≡ true → e ≡ neg_ℤ (pos (unsigne
 negative (pos n) h = let no = not_below n 0 (omega arith) in cc
 negative (negsuc n) h = refl
 
+pub power_fits : (d : Decimal) → IsDecimal d → lt_z d.e (pos 0) ≡ false → 10 ^ unsigned_abs d.e < 2 ^ 128
+power_fits d is h =
+    let k = unsigned_abs d.e in
+    let size = whole_size d k is (nonnegative d.e h) in
+    ⊎_elim
+    (λ some. let wide : 1 * 10 ^ k ≤ unsigned_abs d.m * 10 ^ k = mul-le-mul_right (10 ^ k) some in omega (arith, wide, size))
+    (λ most. subst (λ e. 10 ^ unsigned_abs e < 2 ^ 128) (sym (is.normal.zero (omega (arith, ints, most)))) (lit< tt))
+    (cases_lt 0 (unsigned_abs d.m))
+
 pub whole_length : (d : Decimal) (m p at : ℕ) → IsDecimal d → lt_z d.e (pos 0) ≡ false → m ≡ unsigned_abs d.m → p ≡ 10 ^ unsigned_abs d.e → at ≤ 1
     → at + length (decimal (m * p)) ≤ 48
 whole_length d m p at is h m_is p_is room =

@@ -3,6 +3,8 @@ pub mod DecimalLaws
 pub mod DigitLaws
 pub mod DigitTextLaws
 pub mod FractionLaws
+pub mod CountLaws
+pub mod CompareLaws
 pub mod GcdLaws
 pub mod NumberLaws
 pub mod NumberLawsRange

@@ -1,5 +1,6 @@
-use Rattle.std.proofs.Common.{rules, arith, ◌≡◌, subst, true, get_or, refl}
+use Rattle.std.proofs.Common.{rules, arith, ◌≡◌, subst, true, get_or, refl, sym, ◌∙◌}
 use Rattle.cgl_num.specs.NumberText.{Word, IsCounted, is_digit}
+use Rattle.cgl_num.proofs.CountLaws.{not_all, whole_counted}
 use Rattle.cgl_num.proofs.NumberLaws.{grown}
 use Rattle.cgl_num.proofs.number_text.count.Goals as goal
 
@@ -14,3 +15,45 @@ digits-preserved c =
       zeros = omega arith;
       size = omega arith;
     }
+
+pub digits-init : goal.digits-init
+digits-init c = search rules
+
+pub bounds-text-byte-index : goal.bounds-text-byte-index
+bounds-text-byte-index c = search rules
+
+pub is_digit-requires : goal.is_digit-requires
+is_digit-requires c = search rules
+
+pub returns-then-not-is_digit-clause-none : goal.returns-then-not-is_digit-clause-none
+returns-then-not-is_digit-clause-none c = not_all c.args.text.now c.digits.byte-index c.digits-test.true (sym c.is_digit.ensures ∙ c.if-not-is_digit.true)
+
+pub returns-then-not-is_digit-clause-some : goal.returns-then-not-is_digit-clause-some
+returns-then-not-is_digit-clause-some c = search rules
+
+pub returns-then-not-is_digit-clause-room : goal.returns-then-not-is_digit-clause-room
+returns-then-not-is_digit-clause-room c = search rules
+
+pub overflow_sub-byte : goal.overflow_sub-byte
+overflow_sub-byte c = search rules
+
+pub push-counted-requires-clause-digit : goal.push-counted-requires-clause-digit
+push-counted-requires-clause-digit c = search rules
+
+pub push-counted-requires-clause-zeros : goal.push-counted-requires-clause-zeros
+push-counted-requires-clause-zeros c = search rules
+
+pub push-counted-requires-clause-size : goal.push-counted-requires-clause-size
+push-counted-requires-clause-size c = search rules
+
+pub digits-smaller : goal.digits-smaller
+digits-smaller c = search rules
+
+pub returns-clause-none : goal.returns-clause-none
+returns-clause-none c = search rules
+
+pub returns-clause-some : goal.returns-clause-some
+returns-clause-some c = λ before is. whole_counted before c.args.text.now c.digits.byte-index _ _ _ c.digits-test.false (c.digits.invariant.counted before is)
+
+pub returns-clause-room : goal.returns-clause-room
+returns-clause-room c = search rules

@@ -1,8 +1,8 @@
-use Rattle.std.proofs.Common.{rules, ◌≡◌, ◌^◌, true, false, take}
+use Rattle.std.proofs.Common.{rules, sym, subst, ◌≤◌, ◌≡◌, ◌^◌, true, false, take}
 use Rattle.std.specs.Prelude.{unsigned_abs, pos}
 use Rattle.std.specs.Int.Signed.{lt_z}
 use Rattle.cgl_num.specs.Decimal.{IsDecimal, minus}
-use Rattle.cgl_num.proofs.DecimalLaws.{whole_length, whole_digits, point_digits}
+use Rattle.cgl_num.proofs.DecimalLaws.{power_fits, whole_length, whole_digits, point_digits}
 use Rattle.cgl_num.proofs.decimal.Dec.digits.Goals as goal
 
 pub put_number-requires : goal.put_number-requires
@@ -28,3 +28,48 @@ returns-else-self-lt0-clause-text c =
     let h : lt_z c.args.self.e (pos 0) ≡ false = search rules in
     let sign : take c.put_sign-at.result c.put_sign-at.new.out ≡ minus (lt_z c.args.self.m (pos 0)) = search rules in
     whole_digits c.args.self _ _ _ _ h m_is p_is sign c.put_number.ensures.text
+
+pub unsigned_abs-m-requires : goal.unsigned_abs-m-requires
+unsigned_abs-m-requires c = search rules
+
+pub put_sign-at-requires : goal.put_sign-at-requires
+put_sign-at-requires c = search rules
+
+pub unsigned_abs-requires : goal.unsigned_abs-requires
+unsigned_abs-requires c = search rules
+
+pub overflow_cast-unsigned_abs : goal.overflow_cast-unsigned_abs
+overflow_cast-unsigned_abs c = search rules
+
+pub put_decimals-requires-clause-size : goal.put_decimals-requires-clause-size
+put_decimals-requires-clause-size c = search rules
+
+pub put_decimals-requires-clause-places : goal.put_decimals-requires-clause-places
+put_decimals-requires-clause-places c = search rules
+
+pub put_decimals-requires-clause-room : goal.put_decimals-requires-clause-room
+put_decimals-requires-clause-room c = search rules
+
+pub overflow_cast-self-inside : goal.overflow_cast-self-inside
+overflow_cast-self-inside c = search rules
+
+pub pow-requires : goal.pow-requires
+pow-requires c =
+    let h : lt_z c.args.self.e (pos 0) ≡ false = search rules in
+    let is : IsDecimal c.args.self = search rules in
+    let small = power_fits c.args.self is h in
+    search (rules, small)
+
+pub overflow_mul-m : goal.overflow_mul-m
+overflow_mul-m c = search rules
+
+pub returns-then-self-lt0-clause-within : goal.returns-then-self-lt0-clause-within
+returns-then-self-lt0-clause-within c = search rules
+
+pub returns-else-self-lt0-clause-within : goal.returns-else-self-lt0-clause-within
+returns-else-self-lt0-clause-within c = subst (λ n. n ≤ 48) (sym c.put_number.ensures.end)
+    (let m_is : c.unsigned_abs-m.result ≡ unsigned_abs c.args.self.m = search rules in
+    let p_is : c.pow.result ≡ 10 ^ unsigned_abs c.args.self.e = search rules in
+    let h : lt_z c.args.self.e (pos 0) ≡ false = search rules in
+    let is : IsDecimal c.args.self = search rules in
+    whole_length c.args.self _ _ _ is h m_is p_is c.put_sign-at.ensures.within)

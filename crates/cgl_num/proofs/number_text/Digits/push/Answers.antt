@@ -1,4 +1,5 @@
-use Rattle.std.proofs.Common.{arith, ◌≡◌, ◌-◌, ◌+◌, ◌^◌, ap}
+use Rattle.std.proofs.Common.{rules, arith, ◌≡◌, ◌-◌, ◌+◌, ◌^◌, ◌++◌, ◌∷◌, [], ap, sym, subst}
+use Rattle.cgl_num.specs.NumberText.{IsCounted}
 use Rattle.cgl_num.proofs.DecimalLaws.{tens_mono}
 use Rattle.cgl_num.proofs.NumberLaws.{digit-first, digit-many, digit-more, push_below, push_small, push_normal}
 use Rattle.cgl_num.proofs.number_text.Digits.push.Goals as goal
@@ -40,3 +41,55 @@ invariant_of-result-2 c =
 
 pub returns-clause-counted : goal.returns-clause-counted
 returns-clause-counted c ds is = digit-more ds _ _ _ _ _ is (omega arith) (omega arith) c.pow.ensures (omega arith) c.requires.digit
+
+pub push_zero-requires-clause-zeros : goal.push_zero-requires-clause-zeros
+push_zero-requires-clause-zeros c = search rules
+
+pub push_zero-requires-clause-size : goal.push_zero-requires-clause-size
+push_zero-requires-clause-size c = search rules
+
+pub returns-then-digit-eq0-clause-counted : goal.returns-then-digit-eq0-clause-counted
+returns-then-digit-eq0-clause-counted c ds is =
+    subst (λ d. IsCounted (ds ++ (48 + d) ∷ []) c.push_zero.result.value c.push_zero.result.zeros c.push_zero.result.size) (sym c.if-digit-eq0.true) (c.push_zero.ensures.counted ds is)
+
+pub returns-then-digit-eq0-clause-zeros : goal.returns-then-digit-eq0-clause-zeros
+returns-then-digit-eq0-clause-zeros c = search rules
+
+pub returns-then-digit-eq0-clause-size : goal.returns-then-digit-eq0-clause-size
+returns-then-digit-eq0-clause-size c = search rules
+
+pub invariant_of-result : goal.invariant_of-result
+invariant_of-result c = search rules
+
+pub returns-then-self-eq0-clause-zeros : goal.returns-then-self-eq0-clause-zeros
+returns-then-self-eq0-clause-zeros c = search rules
+
+pub returns-then-self-eq0-clause-size : goal.returns-then-self-eq0-clause-size
+returns-then-self-eq0-clause-size c = search rules
+
+pub overflow_add-result : goal.overflow_add-result
+overflow_add-result c = search rules
+
+pub invariant_of-result-then-self-ge-KEPT : goal.invariant_of-result-then-self-ge-KEPT
+invariant_of-result-then-self-ge-KEPT c = search rules
+
+pub returns-then-self-ge-KEPT-clause-zeros : goal.returns-then-self-ge-KEPT-clause-zeros
+returns-then-self-ge-KEPT-clause-zeros c = search rules
+
+pub returns-then-self-ge-KEPT-clause-size : goal.returns-then-self-ge-KEPT-clause-size
+returns-then-self-ge-KEPT-clause-size c = search rules
+
+pub overflow_cast-self : goal.overflow_cast-self
+overflow_cast-self c = search rules
+
+pub overflow_add-self : goal.overflow_add-self
+overflow_add-self c = search rules
+
+pub overflow_add-result-3 : goal.overflow_add-result-3
+overflow_add-result-3 c = search rules
+
+pub returns-clause-zeros : goal.returns-clause-zeros
+returns-clause-zeros c = search rules
+
+pub returns-clause-size : goal.returns-clause-size
+returns-clause-size c = search rules

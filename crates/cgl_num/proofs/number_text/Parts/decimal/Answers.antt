@@ -50,3 +50,24 @@ returns c text is =
     let digits : c.args.self.digits.value < 10 ^ 24 =
     omega (arith, below, tens_mono (c.args.self.digits.size - c.args.self.digits.zeros) 24 (omega arith)) in
     ap Some (c.with_sign.ensures ∙ two _ _ _ _ refl e) ∙ sym (number_some text _ _ _ _ _ is (omega arith) (omega arith) digits size fine)
+
+pub whole-requires : goal.whole-requires
+whole-requires c = search rules
+
+pub overflow_sub-digits : goal.overflow_sub-digits
+overflow_sub-digits c = search rules
+
+pub sum-above-requires : goal.sum-above-requires
+sum-above-requires c = search rules
+
+pub sum-e-requires : goal.sum-e-requires
+sum-e-requires c = search rules
+
+pub narrow-requires : goal.narrow-requires
+narrow-requires c = search rules
+
+pub with_sign-requires-clause-normal : goal.with_sign-requires-clause-normal
+with_sign-requires-clause-normal c = search rules
+
+pub with_sign-requires-clause-scale : goal.with_sign-requires-clause-scale
+with_sign-requires-clause-scale c = search rules

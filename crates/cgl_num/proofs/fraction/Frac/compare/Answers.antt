@@ -1,0 +1,55 @@
+use Rattle.std.proofs.Common.{rules, ◌∙◌}
+use Rattle.std.specs.Int.{w128}
+use Rattle.std.proofs.lemmas.Int.{to_z-of_z}
+use Rattle.cgl_num.proofs.CompareLaws.{IsPair, order_below, order_not_below}
+use Rattle.cgl_num.proofs.fraction.Frac.compare.Goals as goal
+
+pub compare_ratios-requires-clause-left : goal.compare_ratios-requires-clause-left
+compare_ratios-requires-clause-left c = search rules
+
+pub compare_ratios-requires-clause-right : goal.compare_ratios-requires-clause-right
+compare_ratios-requires-clause-right c = search rules
+
+pub compare_ratios-requires-in-false-false-clause-left : goal.compare_ratios-requires-in-false-false-clause-left
+compare_ratios-requires-in-false-false-clause-left c = search rules
+
+pub compare_ratios-requires-in-false-false-clause-right : goal.compare_ratios-requires-in-false-false-clause-right
+compare_ratios-requires-in-false-false-clause-right c = search rules
+
+pub returns-in-true-true-clause-order : goal.returns-in-true-true-clause-order
+returns-in-true-true-clause-order c =
+    let is : IsPair c.args.self c.args.o _ _ _ _ c.unsigned_abs-in-true-true.result c.unsigned_abs-left_den.result c.unsigned_abs.result c.unsigned_abs-right_den.result = record {
+      left = c.num-left.ensures.lowest;
+      right = c.num-right.ensures.lowest;
+      num = to_z-of_z w128 c.num-left.result (search rules) ∙ c.num-left.ensures.num;
+      den = to_z-of_z w128 c.den.result (search rules) ∙ c.den.ensures.den;
+      other_num = to_z-of_z w128 c.num-right.result (search rules) ∙ c.num-right.ensures.num;
+      other_den = to_z-of_z w128 c.den-2.result (search rules) ∙ c.den-2.ensures.den;
+      num_size = c.unsigned_abs-in-true-true.ensures.value;
+      den_size = c.unsigned_abs-left_den.ensures.value;
+      other_num_size = c.unsigned_abs.ensures.value;
+      other_den_size = c.unsigned_abs-right_den.ensures.value;
+    } in
+    c.compare_ratios.ensures ∙ order_below c.args.self c.args.o _ _ _ _ _ _ _ _ is c.in-true-true.is-0 c.in-true-true.is-1
+
+pub returns-in-true-false-clause-order : goal.returns-in-true-false-clause-order
+returns-in-true-false-clause-order c = search rules
+
+pub returns-in-false-true-clause-order : goal.returns-in-false-true-clause-order
+returns-in-false-true-clause-order c = search rules
+
+pub returns-in-false-false-clause-order : goal.returns-in-false-false-clause-order
+returns-in-false-false-clause-order c =
+    let is : IsPair c.args.self c.args.o _ _ _ _ c.unsigned_abs-in-false-false.result c.unsigned_abs-left_den.result c.unsigned_abs-in-false-false-2.result c.unsigned_abs-right_den.result = record {
+      left = c.num-left.ensures.lowest;
+      right = c.num-right.ensures.lowest;
+      num = to_z-of_z w128 c.num-left.result (search rules) ∙ c.num-left.ensures.num;
+      den = to_z-of_z w128 c.den.result (search rules) ∙ c.den.ensures.den;
+      other_num = to_z-of_z w128 c.num-right.result (search rules) ∙ c.num-right.ensures.num;
+      other_den = to_z-of_z w128 c.den-2.result (search rules) ∙ c.den-2.ensures.den;
+      num_size = c.unsigned_abs-in-false-false.ensures.value;
+      den_size = c.unsigned_abs-left_den.ensures.value;
+      other_num_size = c.unsigned_abs-in-false-false-2.ensures.value;
+      other_den_size = c.unsigned_abs-right_den.ensures.value;
+    } in
+    c.compare_ratios-in-false-false.ensures ∙ order_not_below c.args.self c.args.o _ _ _ _ _ _ _ _ is c.in-false-false.is-0 c.in-false-false.is-1
