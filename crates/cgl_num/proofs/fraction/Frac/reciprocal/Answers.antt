@@ -20,3 +20,30 @@ of_lowest-requires-else-num-gt0 c =
     omega (arith, ints, c.num-else-num-gt0.ensures.num, low.narrow_num) in
     let above : pos 0 <ℤ c.args.self.num → ⊥ = λ h. omega (arith, ints, h, c.num.ensures.num, c.if-num-gt0.false) in
     record { lowest = rw (n_is, d_is) (turned_lowest c.args.self low above c.requires.divisor) }
+
+pub num-requires : goal.num-requires
+num-requires c = search rules
+
+pub den-requires : goal.den-requires
+den-requires c = search rules
+
+pub num-requires-then-num-gt0 : goal.num-requires-then-num-gt0
+num-requires-then-num-gt0 c = search rules
+
+pub den-requires-else-num-gt0 : goal.den-requires-else-num-gt0
+den-requires-else-num-gt0 c = search rules
+
+pub overflow_sub-den : goal.overflow_sub-den
+overflow_sub-den c = search rules
+
+pub num-requires-else-num-gt0 : goal.num-requires-else-num-gt0
+num-requires-else-num-gt0 c = search rules
+
+pub overflow_sub-num : goal.overflow_sub-num
+overflow_sub-num c = search rules
+
+pub returns-then-num-gt0 : goal.returns-then-num-gt0
+returns-then-num-gt0 c = search rules
+
+pub returns-else-num-gt0 : goal.returns-else-num-gt0
+returns-else-num-gt0 c = search rules

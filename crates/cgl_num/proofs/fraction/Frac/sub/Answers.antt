@@ -30,3 +30,33 @@ returns-clause-overflow c =
     let q_is = to_z-of_z w128 c.den-2.result (search rules) in
     let made = rw (n_is, d_is, p_is, q_is, c.num.ensures.num, c.den.ensures.den, c.num-2.ensures.num, c.den-2.ensures.den, c.opposite-opposite.ensures.value) at c.in-Some.ensures in
     (λ e. absurd (false≢true e), λ w. absurd (made.2 ((difference_overflows c.args.self c.args.o).1 w)))
+
+pub opposite-opposite-requires : goal.opposite-opposite-requires
+opposite-opposite-requires c = search rules
+
+pub num-requires : goal.num-requires
+num-requires c = search rules
+
+pub den-requires : goal.den-requires
+den-requires c = search rules
+
+pub num-requires-2 : goal.num-requires-2
+num-requires-2 c = search rules
+
+pub den-requires-2 : goal.den-requires-2
+den-requires-2 c = search rules
+
+pub sum-requires-clause-left : goal.sum-requires-clause-left
+sum-requires-clause-left c = search rules
+
+pub sum-requires-clause-right : goal.sum-requires-clause-right
+sum-requires-clause-right c = search rules
+
+pub returns-in_default-clause-value : goal.returns-in_default-clause-value
+returns-in_default-clause-value c = search rules
+
+pub returns-in_default-clause-error : goal.returns-in_default-clause-error
+returns-in_default-clause-error c = search rules
+
+pub returns-clause-error : goal.returns-clause-error
+returns-clause-error c = search rules
