@@ -26,6 +26,9 @@ not_all (d ∷ text) (suc i) less bad = ap (λ t. is_digit d && t) (not_all text
 pub whole_counted : (before text : Word) (i v z s : ℕ) → length text ≤ i → IsCounted (before ++ take i text) v z s → IsCounted (before ++ text) v z s
 whole_counted before text i v z s all is = subst (λ ds. IsCounted (before ++ ds) v z s) (take_all i text all) is
 
+pub one_more : (a b s i : ℕ) → a ≤ s + i → b ≤ a + 1 → b ≤ s + (i + 1)
+one_more a b s i le step = omega (arith, le, step)
+
 pub point_within : (text : Word) (point : ℕ) → point ≡ position_or_len is_point text → point ≤ length text
 point_within text point at = omega (arith, prefix_len-le-length (λ b. not (is_point b)) text, at)
 

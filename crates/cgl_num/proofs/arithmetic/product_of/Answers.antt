@@ -13,8 +13,8 @@ quotient-requires c =
     let b_is = to_z-of_z w128 c.args.b c.ranges.b in
     let c_is = to_z-of_z w128 c.args.c c.ranges.c in
     let d_is = to_z-of_z w128 c.args.d c.ranges.d in
-    let g_is = to_z-of_z w128 c.gcd-left.result (search rules) in
-    let k_is = to_z-of_z w128 c.gcd-right.result (search rules) in
+    let g_is = to_z-of_z w128 c.gcd-left.result (record { sfits = c.gcd-left.type_inv }) in
+    let k_is = to_z-of_z w128 c.gcd-right.result (record { sfits = c.gcd-right.type_inv }) in
     let left = rw (a_is, d_is) at c.gcd-left.ensures.divisor in
     let right = rw (c_is, b_is) at c.gcd-right.ensures.divisor in
     record { above = rw g_is (left_positive f h c.gcd-left.result c.requires.right left) }
@@ -27,8 +27,8 @@ quotient-requires-2 c =
     let b_is = to_z-of_z w128 c.args.b c.ranges.b in
     let c_is = to_z-of_z w128 c.args.c c.ranges.c in
     let d_is = to_z-of_z w128 c.args.d c.ranges.d in
-    let g_is = to_z-of_z w128 c.gcd-left.result (search rules) in
-    let k_is = to_z-of_z w128 c.gcd-right.result (search rules) in
+    let g_is = to_z-of_z w128 c.gcd-left.result (record { sfits = c.gcd-left.type_inv }) in
+    let k_is = to_z-of_z w128 c.gcd-right.result (record { sfits = c.gcd-right.type_inv }) in
     let left = rw (a_is, d_is) at c.gcd-left.ensures.divisor in
     let right = rw (c_is, b_is) at c.gcd-right.ensures.divisor in
     record { above = rw k_is (left_positive h f c.gcd-right.result c.requires.left right) }
@@ -41,8 +41,8 @@ quotient-requires-3 c =
     let b_is = to_z-of_z w128 c.args.b c.ranges.b in
     let c_is = to_z-of_z w128 c.args.c c.ranges.c in
     let d_is = to_z-of_z w128 c.args.d c.ranges.d in
-    let g_is = to_z-of_z w128 c.gcd-left.result (search rules) in
-    let k_is = to_z-of_z w128 c.gcd-right.result (search rules) in
+    let g_is = to_z-of_z w128 c.gcd-left.result (record { sfits = c.gcd-left.type_inv }) in
+    let k_is = to_z-of_z w128 c.gcd-right.result (record { sfits = c.gcd-right.type_inv }) in
     let left = rw (a_is, d_is) at c.gcd-left.ensures.divisor in
     let right = rw (c_is, b_is) at c.gcd-right.ensures.divisor in
     record { above = rw k_is (left_positive h f c.gcd-right.result c.requires.left right) }
@@ -55,8 +55,8 @@ quotient-requires-4 c =
     let b_is = to_z-of_z w128 c.args.b c.ranges.b in
     let c_is = to_z-of_z w128 c.args.c c.ranges.c in
     let d_is = to_z-of_z w128 c.args.d c.ranges.d in
-    let g_is = to_z-of_z w128 c.gcd-left.result (search rules) in
-    let k_is = to_z-of_z w128 c.gcd-right.result (search rules) in
+    let g_is = to_z-of_z w128 c.gcd-left.result (record { sfits = c.gcd-left.type_inv }) in
+    let k_is = to_z-of_z w128 c.gcd-right.result (record { sfits = c.gcd-right.type_inv }) in
     let left = rw (a_is, d_is) at c.gcd-left.ensures.divisor in
     let right = rw (c_is, b_is) at c.gcd-right.ensures.divisor in
     record { above = rw g_is (left_positive f h c.gcd-left.result c.requires.right left) }
@@ -69,13 +69,13 @@ returns-in_default c =
     let b_is = to_z-of_z w128 c.args.b c.ranges.b in
     let c_is = to_z-of_z w128 c.args.c c.ranges.c in
     let d_is = to_z-of_z w128 c.args.d c.ranges.d in
-    let g_is = to_z-of_z w128 c.gcd-left.result (search rules) in
-    let k_is = to_z-of_z w128 c.gcd-right.result (search rules) in
+    let g_is = to_z-of_z w128 c.gcd-left.result (record { sfits = c.gcd-left.type_inv }) in
+    let k_is = to_z-of_z w128 c.gcd-right.result (record { sfits = c.gcd-right.type_inv }) in
     let left = rw (a_is, d_is) at c.gcd-left.ensures.divisor in
     let right = rw (c_is, b_is) at c.gcd-right.ensures.divisor in
     let parts : ProductParts f h c.gcd-left.result c.gcd-right.result = record { left = c.requires.left; right = c.requires.right; left_divisor = left; right_divisor = right } in
-    let q_is = to_z-of_z w128 c.quotient.result (search rules) in
-    let q2_is = to_z-of_z w128 c.quotient-2.result (search rules) in
+    let q_is = to_z-of_z w128 c.quotient.result (record { sfits = c.quotient.type_inv }) in
+    let q2_is = to_z-of_z w128 c.quotient-2.result (record { sfits = c.quotient-2.type_inv }) in
     let q = rw (a_is, g_is) at c.quotient.ensures.quotient in
     let q2 = rw (c_is, k_is) at c.quotient-2.ensures.quotient in
     num_wide f h _ _ parts (rw (q_is, q2_is, q, q2) at c.in_default.ensures)
@@ -88,17 +88,17 @@ returns-in_default-product c =
     let b_is = to_z-of_z w128 c.args.b c.ranges.b in
     let c_is = to_z-of_z w128 c.args.c c.ranges.c in
     let d_is = to_z-of_z w128 c.args.d c.ranges.d in
-    let g_is = to_z-of_z w128 c.gcd-left.result (search rules) in
-    let k_is = to_z-of_z w128 c.gcd-right.result (search rules) in
+    let g_is = to_z-of_z w128 c.gcd-left.result (record { sfits = c.gcd-left.type_inv }) in
+    let k_is = to_z-of_z w128 c.gcd-right.result (record { sfits = c.gcd-right.type_inv }) in
     let left = rw (a_is, d_is) at c.gcd-left.ensures.divisor in
     let right = rw (c_is, b_is) at c.gcd-right.ensures.divisor in
     let parts : ProductParts f h c.gcd-left.result c.gcd-right.result = record { left = c.requires.left; right = c.requires.right; left_divisor = left; right_divisor = right } in
-    let q_is = to_z-of_z w128 c.quotient.result (search rules) in
-    let q2_is = to_z-of_z w128 c.quotient-2.result (search rules) in
+    let q_is = to_z-of_z w128 c.quotient.result (record { sfits = c.quotient.type_inv }) in
+    let q2_is = to_z-of_z w128 c.quotient-2.result (record { sfits = c.quotient-2.type_inv }) in
     let q = rw (a_is, g_is) at c.quotient.ensures.quotient in
     let q2 = rw (c_is, k_is) at c.quotient-2.ensures.quotient in
-    let q3_is = to_z-of_z w128 c.quotient-3.result (search rules) in
-    let q4_is = to_z-of_z w128 c.quotient-4.result (search rules) in
+    let q3_is = to_z-of_z w128 c.quotient-3.result (record { sfits = c.quotient-3.type_inv }) in
+    let q4_is = to_z-of_z w128 c.quotient-4.result (record { sfits = c.quotient-4.type_inv }) in
     let q3 = rw (b_is, k_is) at c.quotient-3.ensures.quotient in
     let q4 = rw (d_is, g_is) at c.quotient-4.ensures.quotient in
     den_wide f h _ _ parts (rw (q3_is, q4_is, q3, q4) at c.in_default-product.ensures)
@@ -111,17 +111,17 @@ of_lowest-requires c =
     let b_is = to_z-of_z w128 c.args.b c.ranges.b in
     let c_is = to_z-of_z w128 c.args.c c.ranges.c in
     let d_is = to_z-of_z w128 c.args.d c.ranges.d in
-    let g_is = to_z-of_z w128 c.gcd-left.result (search rules) in
-    let k_is = to_z-of_z w128 c.gcd-right.result (search rules) in
+    let g_is = to_z-of_z w128 c.gcd-left.result (record { sfits = c.gcd-left.type_inv }) in
+    let k_is = to_z-of_z w128 c.gcd-right.result (record { sfits = c.gcd-right.type_inv }) in
     let left = rw (a_is, d_is) at c.gcd-left.ensures.divisor in
     let right = rw (c_is, b_is) at c.gcd-right.ensures.divisor in
     let parts : ProductParts f h c.gcd-left.result c.gcd-right.result = record { left = c.requires.left; right = c.requires.right; left_divisor = left; right_divisor = right } in
-    let q_is = to_z-of_z w128 c.quotient.result (search rules) in
-    let q2_is = to_z-of_z w128 c.quotient-2.result (search rules) in
+    let q_is = to_z-of_z w128 c.quotient.result (record { sfits = c.quotient.type_inv }) in
+    let q2_is = to_z-of_z w128 c.quotient-2.result (record { sfits = c.quotient-2.type_inv }) in
     let q = rw (a_is, g_is) at c.quotient.ensures.quotient in
     let q2 = rw (c_is, k_is) at c.quotient-2.ensures.quotient in
-    let q3_is = to_z-of_z w128 c.quotient-3.result (search rules) in
-    let q4_is = to_z-of_z w128 c.quotient-4.result (search rules) in
+    let q3_is = to_z-of_z w128 c.quotient-3.result (record { sfits = c.quotient-3.type_inv }) in
+    let q4_is = to_z-of_z w128 c.quotient-4.result (record { sfits = c.quotient-4.type_inv }) in
     let q3 = rw (b_is, k_is) at c.quotient-3.ensures.quotient in
     let q4 = rw (d_is, g_is) at c.quotient-4.ensures.quotient in
     let p_is = to_z-of_z w128 c.in-Some.num (search rules) in
@@ -138,17 +138,17 @@ returns c =
     let b_is = to_z-of_z w128 c.args.b c.ranges.b in
     let c_is = to_z-of_z w128 c.args.c c.ranges.c in
     let d_is = to_z-of_z w128 c.args.d c.ranges.d in
-    let g_is = to_z-of_z w128 c.gcd-left.result (search rules) in
-    let k_is = to_z-of_z w128 c.gcd-right.result (search rules) in
+    let g_is = to_z-of_z w128 c.gcd-left.result (record { sfits = c.gcd-left.type_inv }) in
+    let k_is = to_z-of_z w128 c.gcd-right.result (record { sfits = c.gcd-right.type_inv }) in
     let left = rw (a_is, d_is) at c.gcd-left.ensures.divisor in
     let right = rw (c_is, b_is) at c.gcd-right.ensures.divisor in
     let parts : ProductParts f h c.gcd-left.result c.gcd-right.result = record { left = c.requires.left; right = c.requires.right; left_divisor = left; right_divisor = right } in
-    let q_is = to_z-of_z w128 c.quotient.result (search rules) in
-    let q2_is = to_z-of_z w128 c.quotient-2.result (search rules) in
+    let q_is = to_z-of_z w128 c.quotient.result (record { sfits = c.quotient.type_inv }) in
+    let q2_is = to_z-of_z w128 c.quotient-2.result (record { sfits = c.quotient-2.type_inv }) in
     let q = rw (a_is, g_is) at c.quotient.ensures.quotient in
     let q2 = rw (c_is, k_is) at c.quotient-2.ensures.quotient in
-    let q3_is = to_z-of_z w128 c.quotient-3.result (search rules) in
-    let q4_is = to_z-of_z w128 c.quotient-4.result (search rules) in
+    let q3_is = to_z-of_z w128 c.quotient-3.result (record { sfits = c.quotient-3.type_inv }) in
+    let q4_is = to_z-of_z w128 c.quotient-4.result (record { sfits = c.quotient-4.type_inv }) in
     let q3 = rw (b_is, k_is) at c.quotient-3.ensures.quotient in
     let q4 = rw (d_is, g_is) at c.quotient-4.ensures.quotient in
     let p_is = to_z-of_z w128 c.in-Some.num (search rules) in

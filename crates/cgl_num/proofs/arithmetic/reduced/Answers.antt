@@ -11,14 +11,14 @@ pub quotient-requires : goal.quotient-requires
 quotient-requires c =
     let n_is = to_z-of_z w128 c.args.num c.ranges.num in
     let d_is = to_z-of_z w128 c.args.den c.ranges.den in
-    let g_is = to_z-of_z w128 c.gcd-common.result (search rules) in
+    let g_is = to_z-of_z w128 c.gcd-common.result (record { sfits = c.gcd-common.type_inv }) in
     record { above = rw g_is (positive_divisor c.args.num c.args.den _ (rw (n_is, d_is) at c.gcd-common.ensures.divisor) c.requires.den) }
 
 pub quotient-requires-2 : goal.quotient-requires-2
 quotient-requires-2 c =
     let n_is = to_z-of_z w128 c.args.num c.ranges.num in
     let d_is = to_z-of_z w128 c.args.den c.ranges.den in
-    let g_is = to_z-of_z w128 c.gcd-common.result (search rules) in
+    let g_is = to_z-of_z w128 c.gcd-common.result (record { sfits = c.gcd-common.type_inv }) in
     record { above = rw g_is (positive_divisor c.args.num c.args.den _ (rw (n_is, d_is) at c.gcd-common.ensures.divisor) c.requires.den) }
 
 pub returns-in_default : goal.returns-in_default
@@ -26,8 +26,8 @@ returns-in_default c =
     let n_is = to_z-of_z w128 c.args.num c.ranges.num in
     let r_is = to_z-of_z w128 c.args.rest c.ranges.rest in
     let d_is = to_z-of_z w128 c.args.den c.ranges.den in
-    let g_is = to_z-of_z w128 c.gcd-common.result (search rules) in
-    let q_is = to_z-of_z w128 c.quotient.result (search rules) in
+    let g_is = to_z-of_z w128 c.gcd-common.result (record { sfits = c.gcd-common.type_inv }) in
+    let q_is = to_z-of_z w128 c.quotient.result (record { sfits = c.quotient.type_inv }) in
     let is = rw (n_is, d_is) at c.gcd-common.ensures.divisor in
     let q = rw (d_is, g_is) at c.quotient.ensures.quotient in
     let wide = rw (r_is, q_is) at c.in_default.ensures in
@@ -39,9 +39,9 @@ of_lowest-requires c =
     let n_is = to_z-of_z w128 c.args.num c.ranges.num in
     let r_is = to_z-of_z w128 c.args.rest c.ranges.rest in
     let d_is = to_z-of_z w128 c.args.den c.ranges.den in
-    let g_is = to_z-of_z w128 c.gcd-common.result (search rules) in
-    let q_is = to_z-of_z w128 c.quotient.result (search rules) in
-    let p_is = to_z-of_z w128 c.quotient-2.result (search rules) in
+    let g_is = to_z-of_z w128 c.gcd-common.result (record { sfits = c.gcd-common.type_inv }) in
+    let q_is = to_z-of_z w128 c.quotient.result (record { sfits = c.quotient.type_inv }) in
+    let p_is = to_z-of_z w128 c.quotient-2.result (record { sfits = c.quotient-2.type_inv }) in
     let z_is = to_z-of_z w128 c.in-Some.den (search rules) in
     let is = rw (n_is, d_is) at c.gcd-common.ensures.divisor in
     let whole = reduced_made c.args.num c.args.rest c.args.den c.gcd-common.result c.quotient-2.result c.quotient.result c.in-Some.den c.requires.rest c.requires.den c.requires.apart is
@@ -58,9 +58,9 @@ returns c =
     let n_is = to_z-of_z w128 c.args.num c.ranges.num in
     let r_is = to_z-of_z w128 c.args.rest c.ranges.rest in
     let d_is = to_z-of_z w128 c.args.den c.ranges.den in
-    let g_is = to_z-of_z w128 c.gcd-common.result (search rules) in
-    let q_is = to_z-of_z w128 c.quotient.result (search rules) in
-    let p_is = to_z-of_z w128 c.quotient-2.result (search rules) in
+    let g_is = to_z-of_z w128 c.gcd-common.result (record { sfits = c.gcd-common.type_inv }) in
+    let q_is = to_z-of_z w128 c.quotient.result (record { sfits = c.quotient.type_inv }) in
+    let p_is = to_z-of_z w128 c.quotient-2.result (record { sfits = c.quotient-2.type_inv }) in
     let z_is = to_z-of_z w128 c.in-Some.den (search rules) in
     let is = rw (n_is, d_is) at c.gcd-common.ensures.divisor in
     let whole = reduced_made c.args.num c.args.rest c.args.den c.gcd-common.result c.quotient-2.result c.quotient.result c.in-Some.den c.requires.rest c.requires.den c.requires.apart is

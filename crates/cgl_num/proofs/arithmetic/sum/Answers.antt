@@ -11,7 +11,7 @@ quotient-rest-requires c =
     let h : Fraction = record { num = c.args.c; den = c.args.d } in
     let b_is = to_z-of_z w128 c.args.b c.ranges.b in
     let d_is = to_z-of_z w128 c.args.d c.ranges.d in
-    let g_is = to_z-of_z w128 c.gcd-divisor.result (search rules) in
+    let g_is = to_z-of_z w128 c.gcd-divisor.result (record { sfits = c.gcd-divisor.type_inv }) in
     let is = rw (b_is, d_is) at c.gcd-divisor.ensures.divisor in
     record { above = rw g_is (divisor_positive f h c.gcd-divisor.result c.requires.right is) }
 
@@ -21,7 +21,7 @@ quotient-requires c =
     let h : Fraction = record { num = c.args.c; den = c.args.d } in
     let b_is = to_z-of_z w128 c.args.b c.ranges.b in
     let d_is = to_z-of_z w128 c.args.d c.ranges.d in
-    let g_is = to_z-of_z w128 c.gcd-divisor.result (search rules) in
+    let g_is = to_z-of_z w128 c.gcd-divisor.result (record { sfits = c.gcd-divisor.type_inv }) in
     let is = rw (b_is, d_is) at c.gcd-divisor.ensures.divisor in
     record { above = rw g_is (divisor_positive f h c.gcd-divisor.result c.requires.right is) }
 
@@ -31,12 +31,12 @@ returns-in_default c =
     let h : Fraction = record { num = c.args.c; den = c.args.d } in
     let b_is = to_z-of_z w128 c.args.b c.ranges.b in
     let d_is = to_z-of_z w128 c.args.d c.ranges.d in
-    let g_is = to_z-of_z w128 c.gcd-divisor.result (search rules) in
+    let g_is = to_z-of_z w128 c.gcd-divisor.result (record { sfits = c.gcd-divisor.type_inv }) in
     let is = rw (b_is, d_is) at c.gcd-divisor.ensures.divisor in
     let a_is = to_z-of_z w128 c.args.a c.ranges.a in
     let c_is = to_z-of_z w128 c.args.c c.ranges.c in
-    let x_is = to_z-of_z w128 c.quotient-rest.result (search rules) in
-    let y_is = to_z-of_z w128 c.quotient.result (search rules) in
+    let x_is = to_z-of_z w128 c.quotient-rest.result (record { sfits = c.quotient-rest.type_inv }) in
+    let y_is = to_z-of_z w128 c.quotient.result (record { sfits = c.quotient.type_inv }) in
     let parts : SumParts f h c.gcd-divisor.result c.quotient-rest.result c.quotient.result =
     record { left = c.requires.left; right = c.requires.right; divisor = is; rest = rw (b_is, g_is) at c.quotient-rest.ensures.quotient; other = rw (d_is, g_is) at c.quotient.ensures.quotient } in
     terms_overflow f h _ _ _ parts (rw (a_is, y_is, c_is, x_is) at c.in_default.ensures)
@@ -47,12 +47,12 @@ reduced-requires-clause-rest c =
     let h : Fraction = record { num = c.args.c; den = c.args.d } in
     let b_is = to_z-of_z w128 c.args.b c.ranges.b in
     let d_is = to_z-of_z w128 c.args.d c.ranges.d in
-    let g_is = to_z-of_z w128 c.gcd-divisor.result (search rules) in
+    let g_is = to_z-of_z w128 c.gcd-divisor.result (record { sfits = c.gcd-divisor.type_inv }) in
     let is = rw (b_is, d_is) at c.gcd-divisor.ensures.divisor in
     let a_is = to_z-of_z w128 c.args.a c.ranges.a in
     let c_is = to_z-of_z w128 c.args.c c.ranges.c in
-    let x_is = to_z-of_z w128 c.quotient-rest.result (search rules) in
-    let y_is = to_z-of_z w128 c.quotient.result (search rules) in
+    let x_is = to_z-of_z w128 c.quotient-rest.result (record { sfits = c.quotient-rest.type_inv }) in
+    let y_is = to_z-of_z w128 c.quotient.result (record { sfits = c.quotient.type_inv }) in
     let parts : SumParts f h c.gcd-divisor.result c.quotient-rest.result c.quotient.result =
     record { left = c.requires.left; right = c.requires.right; divisor = is; rest = rw (b_is, g_is) at c.quotient-rest.ensures.quotient; other = rw (d_is, g_is) at c.quotient.ensures.quotient } in
     rw x_is (rest_positive f h _ _ _ parts)
@@ -63,12 +63,12 @@ reduced-requires-clause-apart c =
     let h : Fraction = record { num = c.args.c; den = c.args.d } in
     let b_is = to_z-of_z w128 c.args.b c.ranges.b in
     let d_is = to_z-of_z w128 c.args.d c.ranges.d in
-    let g_is = to_z-of_z w128 c.gcd-divisor.result (search rules) in
+    let g_is = to_z-of_z w128 c.gcd-divisor.result (record { sfits = c.gcd-divisor.type_inv }) in
     let is = rw (b_is, d_is) at c.gcd-divisor.ensures.divisor in
     let a_is = to_z-of_z w128 c.args.a c.ranges.a in
     let c_is = to_z-of_z w128 c.args.c c.ranges.c in
-    let x_is = to_z-of_z w128 c.quotient-rest.result (search rules) in
-    let y_is = to_z-of_z w128 c.quotient.result (search rules) in
+    let x_is = to_z-of_z w128 c.quotient-rest.result (record { sfits = c.quotient-rest.type_inv }) in
+    let y_is = to_z-of_z w128 c.quotient.result (record { sfits = c.quotient.type_inv }) in
     let parts : SumParts f h c.gcd-divisor.result c.quotient-rest.result c.quotient.result =
     record { left = c.requires.left; right = c.requires.right; divisor = is; rest = rw (b_is, g_is) at c.quotient-rest.ensures.quotient; other = rw (d_is, g_is) at c.quotient.ensures.quotient } in
     let t_is = to_z-of_z w128 c.in-Some.num (search rules) in
@@ -81,12 +81,12 @@ returns c =
     let h : Fraction = record { num = c.args.c; den = c.args.d } in
     let b_is = to_z-of_z w128 c.args.b c.ranges.b in
     let d_is = to_z-of_z w128 c.args.d c.ranges.d in
-    let g_is = to_z-of_z w128 c.gcd-divisor.result (search rules) in
+    let g_is = to_z-of_z w128 c.gcd-divisor.result (record { sfits = c.gcd-divisor.type_inv }) in
     let is = rw (b_is, d_is) at c.gcd-divisor.ensures.divisor in
     let a_is = to_z-of_z w128 c.args.a c.ranges.a in
     let c_is = to_z-of_z w128 c.args.c c.ranges.c in
-    let x_is = to_z-of_z w128 c.quotient-rest.result (search rules) in
-    let y_is = to_z-of_z w128 c.quotient.result (search rules) in
+    let x_is = to_z-of_z w128 c.quotient-rest.result (record { sfits = c.quotient-rest.type_inv }) in
+    let y_is = to_z-of_z w128 c.quotient.result (record { sfits = c.quotient.type_inv }) in
     let parts : SumParts f h c.gcd-divisor.result c.quotient-rest.result c.quotient.result =
     record { left = c.requires.left; right = c.requires.right; divisor = is; rest = rw (b_is, g_is) at c.quotient-rest.ensures.quotient; other = rw (d_is, g_is) at c.quotient.ensures.quotient } in
     let t_is = to_z-of_z w128 c.in-Some.num (search rules) in

@@ -6,18 +6,18 @@ use Rattle.cgl_num.proofs.fraction.Frac.add.Goals as goal
 
 pub returns-in_default-clause-overflow : goal.returns-in_default-clause-overflow
 returns-in_default-clause-overflow c =
-    let n_is = to_z-of_z w128 c.num.result (search rules) in
-    let d_is = to_z-of_z w128 c.den.result (search rules) in
-    let p_is = to_z-of_z w128 c.num-2.result (search rules) in
-    let q_is = to_z-of_z w128 c.den-2.result (search rules) in
+    let n_is = to_z-of_z w128 c.num.result (record { sfits = c.num.type_inv }) in
+    let d_is = to_z-of_z w128 c.den.result (record { sfits = c.den.type_inv }) in
+    let p_is = to_z-of_z w128 c.num-2.result (record { sfits = c.num-2.type_inv }) in
+    let q_is = to_z-of_z w128 c.den-2.result (record { sfits = c.den-2.type_inv }) in
     (λ _. rw (n_is, d_is, p_is, q_is, c.num.ensures.num, c.den.ensures.den, c.num-2.ensures.num, c.den-2.ensures.den) at c.in_default.ensures, λ _. refl)
 
 pub returns-clause-overflow : goal.returns-clause-overflow
 returns-clause-overflow c =
-    let n_is = to_z-of_z w128 c.num.result (search rules) in
-    let d_is = to_z-of_z w128 c.den.result (search rules) in
-    let p_is = to_z-of_z w128 c.num-2.result (search rules) in
-    let q_is = to_z-of_z w128 c.den-2.result (search rules) in
+    let n_is = to_z-of_z w128 c.num.result (record { sfits = c.num.type_inv }) in
+    let d_is = to_z-of_z w128 c.den.result (record { sfits = c.den.type_inv }) in
+    let p_is = to_z-of_z w128 c.num-2.result (record { sfits = c.num-2.type_inv }) in
+    let q_is = to_z-of_z w128 c.den-2.result (record { sfits = c.den-2.type_inv }) in
     let made = rw (n_is, d_is, p_is, q_is, c.num.ensures.num, c.den.ensures.den, c.num-2.ensures.num, c.den-2.ensures.den) at c.in-Some.ensures in
     (λ e. absurd (false≢true e), λ w. absurd (made.2 w))
 

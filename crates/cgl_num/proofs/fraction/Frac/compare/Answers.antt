@@ -21,10 +21,10 @@ returns-in-true-true-clause-order c =
     let is : IsPair c.args.self c.args.o _ _ _ _ c.unsigned_abs-in-true-true.result c.unsigned_abs-left_den.result c.unsigned_abs.result c.unsigned_abs-right_den.result = record {
       left = c.num-left.ensures.lowest;
       right = c.num-right.ensures.lowest;
-      num = to_z-of_z w128 c.num-left.result (search rules) ∙ c.num-left.ensures.num;
-      den = to_z-of_z w128 c.den.result (search rules) ∙ c.den.ensures.den;
-      other_num = to_z-of_z w128 c.num-right.result (search rules) ∙ c.num-right.ensures.num;
-      other_den = to_z-of_z w128 c.den-2.result (search rules) ∙ c.den-2.ensures.den;
+      num = to_z-of_z w128 c.num-left.result (record { sfits = c.num-left.type_inv }) ∙ c.num-left.ensures.num;
+      den = to_z-of_z w128 c.den.result (record { sfits = c.den.type_inv }) ∙ c.den.ensures.den;
+      other_num = to_z-of_z w128 c.num-right.result (record { sfits = c.num-right.type_inv }) ∙ c.num-right.ensures.num;
+      other_den = to_z-of_z w128 c.den-2.result (record { sfits = c.den-2.type_inv }) ∙ c.den-2.ensures.den;
       num_size = c.unsigned_abs-in-true-true.ensures.value;
       den_size = c.unsigned_abs-left_den.ensures.value;
       other_num_size = c.unsigned_abs.ensures.value;
@@ -43,10 +43,10 @@ returns-in-false-false-clause-order c =
     let is : IsPair c.args.self c.args.o _ _ _ _ c.unsigned_abs-in-false-false.result c.unsigned_abs-left_den.result c.unsigned_abs-in-false-false-2.result c.unsigned_abs-right_den.result = record {
       left = c.num-left.ensures.lowest;
       right = c.num-right.ensures.lowest;
-      num = to_z-of_z w128 c.num-left.result (search rules) ∙ c.num-left.ensures.num;
-      den = to_z-of_z w128 c.den.result (search rules) ∙ c.den.ensures.den;
-      other_num = to_z-of_z w128 c.num-right.result (search rules) ∙ c.num-right.ensures.num;
-      other_den = to_z-of_z w128 c.den-2.result (search rules) ∙ c.den-2.ensures.den;
+      num = to_z-of_z w128 c.num-left.result (record { sfits = c.num-left.type_inv }) ∙ c.num-left.ensures.num;
+      den = to_z-of_z w128 c.den.result (record { sfits = c.den.type_inv }) ∙ c.den.ensures.den;
+      other_num = to_z-of_z w128 c.num-right.result (record { sfits = c.num-right.type_inv }) ∙ c.num-right.ensures.num;
+      other_den = to_z-of_z w128 c.den-2.result (record { sfits = c.den-2.type_inv }) ∙ c.den-2.ensures.den;
       num_size = c.unsigned_abs-in-false-false.ensures.value;
       den_size = c.unsigned_abs-left_den.ensures.value;
       other_num_size = c.unsigned_abs-in-false-false-2.ensures.value;

@@ -6,8 +6,8 @@ use Rattle.cgl_num.proofs.fraction.Frac.reciprocal.Goals as goal
 
 pub of_lowest-requires : goal.of_lowest-requires
 of_lowest-requires c =
-    let n_is = to_z-of_z w128 c.num-then-num-gt0.result (search rules) in
-    let d_is = to_z-of_z w128 c.den.result (search rules) in
+    let n_is = to_z-of_z w128 c.num-then-num-gt0.result (record { sfits = c.num-then-num-gt0.type_inv }) in
+    let d_is = to_z-of_z w128 c.den.result (record { sfits = c.den.type_inv }) in
     let above : pos 0 <ℤ c.args.self.num = omega (arith, ints, c.if-num-gt0.true, c.num.ensures.num) in
     record { lowest = rw (n_is, d_is, c.num-then-num-gt0.ensures.num, c.den.ensures.den) (upright_lowest c.args.self c.den.ensures.lowest above) }
 
