@@ -6,3 +6,4 @@ pub mod ReadingLaws
 pub mod LimitLaws
 pub mod FrontLaws
 pub mod CarriedLaws
+pub mod KindLaws

@@ -1,0 +1,48 @@
+use Rattle.std.proofs.Common.{◌≡◌, ◌∙◌, ap, sym, rules, false}
+use Rattle.cgl_where.specs.PointValue.{value}
+use Rattle.cgl_where.specs.Carried.{column_number}
+use Rattle.cgl_where.proofs.KindLaws.{IsNew, counted, is_new, kind_count, kind_fine, kind_none, kind_unknown, kind_value, miscounted}
+use Rattle.cgl_where.proofs.carried.Carried.take_value.Goals as goal
+
+pub returns-then-fields-ne2-clause-kind : goal.returns-then-fields-ne2-clause-kind
+returns-then-fields-ne2-clause-kind c = kind_count c.args.columns.now c.args.self.now c.args.r.now (miscounted _ _ _ c.fields.ensures c.if-fields-ne2.true)
+
+pub returns-in_default-clause-kind : goal.returns-in_default-clause-kind
+returns-in_default-clause-kind c =
+    let m = c.args.columns.now in
+    kind_unknown m c.args.self.now c.args.r.now c.find.result (counted _ _ _ c.fields.ensures c.if-fields-ne2.false) (c.find.ensures ∙ ap (column_number m) c.field.ensures) c.in_default.is
+
+pub returns-in_default-value-clause-kind : goal.returns-in_default-value-clause-kind
+returns-in_default-value-clause-kind c =
+    let m = c.args.columns.now in
+    let old = c.args.self.now in
+    let r = c.args.r.now in
+    let unnamed : c.is_some.result ≡ false = search rules in
+    let new : IsNew m old r =
+        is_new m old r c.find.result c.in-Some.column c.as_slice.result.now c.named_at.result c.is_some.result (counted _ _ _ c.fields.ensures c.if-fields-ne2.false) (c.find.ensures ∙ ap (column_number m) c.field.ensures)
+        c.in-Some.is c.as_slice.ensures.value c.named_at.ensures c.is_some.ensures unnamed in
+    kind_value m old r c.value.result new (c.value.ensures ∙ ap value c.field-2.ensures) c.in_default-value.is
+
+pub returns-in_default-grown_denominator-clause-kind : goal.returns-in_default-grown_denominator-clause-kind
+returns-in_default-grown_denominator-clause-kind c =
+    let m = c.args.columns.now in
+    let old = c.args.self.now in
+    let r = c.args.r.now in
+    let unnamed : c.is_some.result ≡ false = search rules in
+    let new : IsNew m old r =
+        is_new m old r c.find.result c.in-Some.column c.as_slice.result.now c.named_at.result c.is_some.result (counted _ _ _ c.fields.ensures c.if-fields-ne2.false) (c.find.ensures ∙ ap (column_number m) c.field.ensures)
+        c.in-Some.is c.as_slice.ensures.value c.named_at.ensures c.is_some.ensures unnamed in
+    kind_fine m old r c.value.result c.in-Some-value.taken c.as_slice-2.result.now c.grown_denominator.result new (c.value.ensures ∙ ap value c.field-2.ensures) c.in-Some-value.is
+    c.as_slice-2.ensures.value c.grown_denominator.ensures c.in_default-grown_denominator.is
+
+pub returns-clause-kind : goal.returns-clause-kind
+returns-clause-kind c =
+    let m = c.args.columns.now in
+    let old = c.args.self.now in
+    let r = c.args.r.now in
+    let unnamed : c.is_some.result ≡ false = search rules in
+    let new : IsNew m old r =
+        is_new m old r c.find.result c.in-Some.column c.as_slice.result.now c.named_at.result c.is_some.result (counted _ _ _ c.fields.ensures c.if-fields-ne2.false) (c.find.ensures ∙ ap (column_number m) c.field.ensures)
+        c.in-Some.is c.as_slice.ensures.value c.named_at.ensures c.is_some.ensures unnamed in
+    kind_none m old r c.value.result c.in-Some-value.taken c.as_slice-2.result.now c.grown_denominator.result c.in-Some-grown_denominator.denominator new (c.value.ensures ∙ ap value c.field-2.ensures)
+    c.in-Some-value.is c.as_slice-2.ensures.value c.grown_denominator.ensures c.in-Some-grown_denominator.is
