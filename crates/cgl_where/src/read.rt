@@ -1,8 +1,9 @@
 //! Point files on a shelf.
 
-ghost use Rattle.std.specs.Prelude.{◌≡◌, ◌⊎◌, ◌≤◌, length, IfOk, IfErr, IsErrOf, Ok};
+ghost use Rattle.std.specs.Prelude.{◌≡◌, ◌⊎◌, ◌+◌, ◌≤◌, ◌^◌, length, IfOk, IfErr, IsErrOf, Ok};
 ghost use Rattle.cgl_outside.specs.Shelf.{Lacks, Rose};
-ghost use Rattle.cgl_where.specs.PointRead.{point_result};
+ghost use Rattle.cgl_where.specs.PointFile.{Values, point_of};
+ghost use Rattle.cgl_where.specs.PointRead.{Tells, point_result};
 ghost use Rattle.cgl_outside.specs.Means.{Means, MeansFault};
 
 use crate::{PointError, point_of};
@@ -10,6 +11,20 @@ use cgl_model::{Model, Point};
 use cgl_outside::{FetchError, ReadError, Shelf, read_front};
 use cgl_text::MOST_BYTES;
 use std::alloc::Global;
+
+/// The point that a file means for the model, with the error of a reading.
+fn point_told(alloc: Global, bytes: &[u8], model: &Model) -> Result<Point, ReadError>
+    requires { length bytes.now ≤ 2 ^ 30 + 1 }
+    ensures point { IfOk result (λ x. point_of bytes.now model.now ≡ Values x) }
+    ensures sized { IfOk result (λ x. length x.p ≡ length model.now.cols) }
+    ensures fault { IfErr result (Tells bytes.now model.now) }
+{
+    match point_of(alloc, bytes, model) {
+        Ok(point) => Ok(point),
+        Err(PointError::Fault { line, kind }) => Err(ReadError::Fault { line, kind }),
+        Err(PointError::Memory) => Err(ReadError::Memory),
+    }
+}
 
 /// The point that the file of this name on the shelf means for the model. The file is read from its
 /// start, up to 2^30 + 1 bytes of it. The shelf's files stay as they were.
@@ -42,9 +57,5 @@ pub fn read_point<S: Shelf>(
         Err(FetchError::ReadFault) => return Err(ReadError::ReadFault),
         Err(FetchError::Memory) => return Err(ReadError::Memory),
     };
-    match point_of(alloc, &bytes, model) {
-        Ok(point) => Ok(point),
-        Err(PointError::Fault { line, kind }) => Err(ReadError::Fault { line, kind }),
-        Err(PointError::Memory) => Err(ReadError::Memory),
-    }
+    point_told(alloc, &bytes, model)
 }

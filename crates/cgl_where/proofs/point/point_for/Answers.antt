@@ -1,4 +1,4 @@
-use Rattle.std.proofs.Common.{◌∙◌, refl, arith, inr, [], ◌+◌, ◌<◌, ◌≤◌, ℕ, List, get_or, length}
+use Rattle.std.proofs.Common.{◌∙◌, refl, arith, inl, inr, [], ◌+◌, ◌<◌, ◌≤◌, ℕ, List, get_or, length}
 use denote.Ref.{Bor}
 use Rattle.cgl_where.proofs.CarriedLaws.{carries_sound, reads_fault, reads_first, reads_last, reads_next, reads_ready}
 use Rattle.cgl_where.proofs.point.point_for.Goals as goal
@@ -47,3 +47,60 @@ returns-in-Ok-point-clause-point c =
     let i = c.lines.i in
     let end : length texts ≤ i = omega arith in
     reads_last c.args.bytes.now c.args.columns.now (i + 1) texts i _ end c.lines.invariant c.in-Ok-point.point c.in-Ok-point.ensures.point
+
+pub returns-in_default-clause-point : goal.returns-in_default-clause-point
+returns-in_default-clause-point c = tt
+
+pub returns-in_default-clause-sized : goal.returns-in_default-clause-sized
+returns-in_default-clause-sized c = tt
+
+pub returns-in_default-clause-fault : goal.returns-in_default-clause-fault
+returns-in_default-clause-fault c = inl refl
+
+pub returns-in_default-new-clause-point : goal.returns-in_default-new-clause-point
+returns-in_default-new-clause-point c = tt
+
+pub returns-in_default-new-clause-sized : goal.returns-in_default-new-clause-sized
+returns-in_default-new-clause-sized c = tt
+
+pub returns-in_default-new-clause-fault : goal.returns-in_default-new-clause-fault
+returns-in_default-new-clause-fault c = inl refl
+
+pub returns-in_default-record_of-clause-point : goal.returns-in_default-record_of-clause-point
+returns-in_default-record_of-clause-point c = tt
+
+pub returns-in_default-record_of-clause-sized : goal.returns-in_default-record_of-clause-sized
+returns-in_default-record_of-clause-sized c = tt
+
+pub returns-in_default-record_of-clause-fault : goal.returns-in_default-record_of-clause-fault
+returns-in_default-record_of-clause-fault c = inl refl
+
+pub returns-in_default-take_line-clause-point : goal.returns-in_default-take_line-clause-point
+returns-in_default-take_line-clause-point c = tt
+
+pub returns-in_default-take_line-clause-sized : goal.returns-in_default-take_line-clause-sized
+returns-in_default-take_line-clause-sized c = tt
+
+pub returns-in_default-take_line-clause-fault : goal.returns-in_default-take_line-clause-fault
+returns-in_default-take_line-clause-fault c = inl refl
+
+pub returns-clause-point : goal.returns-clause-point
+returns-clause-point c = tt
+
+pub returns-clause-sized : goal.returns-clause-sized
+returns-clause-sized c = tt
+
+pub returns-clause-fault : goal.returns-clause-fault
+returns-clause-fault c = inl refl
+
+pub returns-in-Some-clause-point : goal.returns-in-Some-clause-point
+returns-in-Some-clause-point c = tt
+
+pub returns-in-Some-clause-sized : goal.returns-in-Some-clause-sized
+returns-in-Some-clause-sized c = tt
+
+pub returns-in-Ok-point-clause-sized : goal.returns-in-Ok-point-clause-sized
+returns-in-Ok-point-clause-sized c = c.in-Ok-point.ensures.sized
+
+pub returns-in-Ok-point-clause-fault : goal.returns-in-Ok-point-clause-fault
+returns-in-Ok-point-clause-fault c = tt

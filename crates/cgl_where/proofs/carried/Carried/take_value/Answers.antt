@@ -1,4 +1,4 @@
-use Rattle.std.proofs.Common.{◌≡◌, ◌∙◌, ap, sym, rules, false}
+use Rattle.std.proofs.Common.{◌≡◌, ◌∙◌, ap, rules, false}
 use Rattle.cgl_where.specs.PointValue.{value}
 use Rattle.cgl_where.specs.Carried.{column_number}
 use Rattle.cgl_where.proofs.KindLaws.{IsNew, counted, is_new, kind_count, kind_fine, kind_none, kind_unknown, kind_value, miscounted}
@@ -19,8 +19,8 @@ returns-in_default-value-clause-kind c =
     let r = c.args.r.now in
     let unnamed : c.is_some.result ≡ false = search rules in
     let new : IsNew m old r =
-        is_new m old r c.find.result c.in-Some.column c.as_slice.result.now c.named_at.result c.is_some.result (counted _ _ _ c.fields.ensures c.if-fields-ne2.false) (c.find.ensures ∙ ap (column_number m) c.field.ensures)
-        c.in-Some.is c.as_slice.ensures.value c.named_at.ensures c.is_some.ensures unnamed in
+    is_new m old r c.find.result c.in-Some.column c.as_slice.result.now c.named_at.result c.is_some.result (counted _ _ _ c.fields.ensures c.if-fields-ne2.false) (c.find.ensures ∙ ap (column_number m) c.field.ensures)
+    c.in-Some.is c.as_slice.ensures.value c.named_at.ensures c.is_some.ensures unnamed in
     kind_value m old r c.value.result new (c.value.ensures ∙ ap value c.field-2.ensures) c.in_default-value.is
 
 pub returns-in_default-grown_denominator-clause-kind : goal.returns-in_default-grown_denominator-clause-kind
@@ -30,8 +30,8 @@ returns-in_default-grown_denominator-clause-kind c =
     let r = c.args.r.now in
     let unnamed : c.is_some.result ≡ false = search rules in
     let new : IsNew m old r =
-        is_new m old r c.find.result c.in-Some.column c.as_slice.result.now c.named_at.result c.is_some.result (counted _ _ _ c.fields.ensures c.if-fields-ne2.false) (c.find.ensures ∙ ap (column_number m) c.field.ensures)
-        c.in-Some.is c.as_slice.ensures.value c.named_at.ensures c.is_some.ensures unnamed in
+    is_new m old r c.find.result c.in-Some.column c.as_slice.result.now c.named_at.result c.is_some.result (counted _ _ _ c.fields.ensures c.if-fields-ne2.false) (c.find.ensures ∙ ap (column_number m) c.field.ensures)
+    c.in-Some.is c.as_slice.ensures.value c.named_at.ensures c.is_some.ensures unnamed in
     kind_fine m old r c.value.result c.in-Some-value.taken c.as_slice-2.result.now c.grown_denominator.result new (c.value.ensures ∙ ap value c.field-2.ensures) c.in-Some-value.is
     c.as_slice-2.ensures.value c.grown_denominator.ensures c.in_default-grown_denominator.is
 
@@ -42,7 +42,7 @@ returns-clause-kind c =
     let r = c.args.r.now in
     let unnamed : c.is_some.result ≡ false = search rules in
     let new : IsNew m old r =
-        is_new m old r c.find.result c.in-Some.column c.as_slice.result.now c.named_at.result c.is_some.result (counted _ _ _ c.fields.ensures c.if-fields-ne2.false) (c.find.ensures ∙ ap (column_number m) c.field.ensures)
-        c.in-Some.is c.as_slice.ensures.value c.named_at.ensures c.is_some.ensures unnamed in
+    is_new m old r c.find.result c.in-Some.column c.as_slice.result.now c.named_at.result c.is_some.result (counted _ _ _ c.fields.ensures c.if-fields-ne2.false) (c.find.ensures ∙ ap (column_number m) c.field.ensures)
+    c.in-Some.is c.as_slice.ensures.value c.named_at.ensures c.is_some.ensures unnamed in
     kind_none m old r c.value.result c.in-Some-value.taken c.as_slice-2.result.now c.grown_denominator.result c.in-Some-grown_denominator.denominator new (c.value.ensures ∙ ap value c.field-2.ensures)
     c.in-Some-value.is c.as_slice-2.ensures.value c.grown_denominator.ensures c.in-Some-grown_denominator.is
