@@ -1,5 +1,7 @@
 -- The first kind of fault of a line's value, from what the code finds out in turn.
-use Rattle.std.proofs.Common.{◌≡◌, ◌≢◌, refl, sym, ap, ◌∙◌, arith, ℕ, ◌==◌, Bool, true, false, not, cond, List, map, length, Option, Some, None, is_some, is_none, option_and_then}
+use Rattle.std.proofs.Common.{◌≡◌, ◌≢◌, subst, ◌<◌, ◌^◌, nat_lt, refl, sym, ap, ◌∙◌, arith, ℕ, ◌==◌, Bool, true, false, not, cond, List, map, length, Option, Some, None, is_some, is_none, option_and_then}
+use Rattle.std.specs.Prelude.{unsigned_abs}
+use Rattle.std.specs.List.{list_any}
 use Rattle.std.proofs.lemmas.List.{length-map}
 use Rattle.std.proofs.lemmas.Bool.Decides.{nat_tests}
 use Rattle.cgl_num.specs.Fraction.{Fraction}
@@ -7,8 +9,9 @@ use Rattle.cgl_text.specs.Conditions.{first_kind}
 use Rattle.cgl_model.specs.declared.mip.Model.{Model}
 use Rattle.cgl_where.specs.declared.carried.Carried.{Carried}
 use Rattle.cgl_where.specs.PointValue.{value}
-use Rattle.cgl_where.specs.PointFile.{Record, field}
-use Rattle.cgl_where.specs.Carried.{column_number, named_at, grown_denominator, carried_conditions}
+use Rattle.cgl_where.specs.PointFile.{Record, field, lcm}
+use Rattle.cgl_where.proofs.CarriedLaws.{number_within}
+use Rattle.cgl_where.specs.Carried.{column_number, named_at, grown_denominator, carried_conditions, is_wide}
 
 kind_here : (b : Bool) (kind : ℕ) (later : Option ℕ) → b ≡ true → Some kind ≡ cond b (Some kind) later
 kind_here true kind later e = refl
@@ -77,3 +80,24 @@ pub kind_none : (m : Model) (carried : Carried) (r : Record) (o : Option Fractio
 kind_none m carried r o taken values p d new is some values_are p_is some_d =
     kind_grown m carried r None o taken new is some
     (kind_later _ 13 _ _ (ap (λ l. is_none (grown_denominator l carried.denominator taken)) (sym values_are) ∙ ap is_none (sym p_is ∙ some_d)) refl)
+
+-- ---- what is taken in
+
+pub untaken : {A : Type 0} (kind : ℕ) → Some kind ≡ None → A
+untaken kind e = cc
+
+grown_case : (a b c : Bool) (d n : ℕ) → cond a None (cond b None (cond c None (Some d))) ≡ Some n → n ≡ d
+grown_case true b c d n e = cc
+grown_case false true c d n e = cc
+grown_case false false true d n e = cc
+grown_case false false false d n e = cc
+
+pub grown_is : (values : List Fraction) (d n : ℕ) (f : Fraction) (p : Option ℕ) → p ≡ grown_denominator values d f → p ≡ Some n → n ≡ lcm (unsigned_abs f.den) d
+grown_is values d n f p is some =
+    let next = lcm (unsigned_abs f.den) d in
+    grown_case (nat_lt (2 ^ 62) next) (is_wide next f) (list_any (is_wide next) values) next n (sym is ∙ some)
+
+pub number_named : (m : Model) (name : List ℕ) (named : List (Option Fraction)) (o : Option ℕ) (j : ℕ) → o ≡ column_number m name → o ≡ Some j → length named ≡ length m.cols → j < length named
+number_named m name named o j is some same =
+    let F : ℕ → Type 0 = λ n. j < n in
+    subst F (sym same) (number_within m name j (sym is ∙ some))

@@ -1,7 +1,9 @@
-use Rattle.std.proofs.Common.{◌≡◌, ◌∙◌, ap, rules, false}
+use Rattle.std.proofs.Common.{◌≡◌, ◌∙◌, sym, ap, rules, false}
+use Rattle.std.specs.List.{list_any}
+use Rattle.cgl_where.specs.PointFile.{field}
 use Rattle.cgl_where.specs.PointValue.{value}
-use Rattle.cgl_where.specs.Carried.{column_number}
-use Rattle.cgl_where.proofs.KindLaws.{IsNew, counted, is_new, kind_count, kind_fine, kind_none, kind_unknown, kind_value, miscounted}
+use Rattle.cgl_where.specs.Carried.{column_number, is_wide}
+use Rattle.cgl_where.proofs.KindLaws.{IsNew, counted, grown_is, is_new, kind_count, kind_fine, kind_none, kind_unknown, kind_value, miscounted, number_named, untaken}
 use Rattle.cgl_where.proofs.carried.Carried.take_value.Goals as goal
 
 pub returns-then-fields-ne2-clause-kind : goal.returns-then-fields-ne2-clause-kind
@@ -46,3 +48,40 @@ returns-clause-kind c =
     c.in-Some.is c.as_slice.ensures.value c.named_at.ensures c.is_some.ensures unnamed in
     kind_none m old r c.value.result c.in-Some-value.taken c.as_slice-2.result.now c.grown_denominator.result c.in-Some-grown_denominator.denominator new (c.value.ensures ∙ ap value c.field-2.ensures)
     c.in-Some-value.is c.as_slice-2.ensures.value c.grown_denominator.ensures c.in-Some-grown_denominator.is
+
+pub returns-then-fields-ne2-clause-taken : goal.returns-then-fields-ne2-clause-taken
+returns-then-fields-ne2-clause-taken c = λ none. untaken 3 none
+
+pub returns-in_default-clause-taken : goal.returns-in_default-clause-taken
+returns-in_default-clause-taken c = λ none. untaken 6 none
+
+pub returns-in_default-value-clause-taken : goal.returns-in_default-value-clause-taken
+returns-in_default-value-clause-taken c = λ none. untaken 4 none
+
+pub returns-in_default-grown_denominator-clause-taken : goal.returns-in_default-grown_denominator-clause-taken
+returns-in_default-grown_denominator-clause-taken c = λ none. untaken 13 none
+
+pub grown_denominator-requires-clause-positive : goal.grown_denominator-requires-clause-positive
+grown_denominator-requires-clause-positive c = c.requires.positive
+
+pub grown_denominator-requires-clause-within : goal.grown_denominator-requires-clause-within
+grown_denominator-requires-clause-within c = c.requires.within
+
+pub grown_denominator-requires-clause-fine : goal.grown_denominator-requires-clause-fine
+grown_denominator-requires-clause-fine c = ap (list_any (is_wide c.args.self.now.denominator)) c.as_slice-2.ensures.value ∙ c.requires.fine
+
+pub put-requires : goal.put-requires
+put-requires c =
+    let m = c.args.columns.now in
+    number_named m (field 0 c.args.r.now) c.args.self.now.named.items c.find.result c.in-Some.column (c.find.ensures ∙ ap (column_number m) c.field.ensures) c.in-Some.is c.requires.counted
+
+pub returns-clause-taken : goal.returns-clause-taken
+returns-clause-taken c = λ none. record {
+  column = c.in-Some.column;
+  taken = c.in-Some-value.taken;
+  is_column = sym (c.find.ensures ∙ ap (column_number c.args.columns.now) c.field.ensures) ∙ c.in-Some.is;
+  is_value = sym (c.value.ensures ∙ ap value c.field-2.ensures) ∙ c.in-Some-value.is;
+  named_are = c.in-Ok.ensures.named;
+  values_are = c.in-Ok.ensures.values;
+  common = c.in-Ok.ensures.common ∙ grown_is c.as_slice-2.result.now c.args.self.now.denominator c.in-Some-grown_denominator.denominator c.in-Some-value.taken c.grown_denominator.result c.grown_denominator.ensures c.in-Some-grown_denominator.is;
+}
