@@ -70,6 +70,24 @@ wide_at k (first ∷ entries) zero e h is w =
     or_left _ _ (wide_number (scaled k first.1) (subst F is w))
 wide_at k (first ∷ entries) (suc i) e h is w = or_right (is_wide_number (scaled k first.1)) _ (wide_at k entries i e (omega arith) is w)
 
+pub scaled_push : (k : ℕ) (entries : List (ℕ × Decimal)) (i : ℕ) (e : ℕ × Decimal) (before after : List Term) → i < length entries → e ≡ get_or entries i e
+    → before ≡ map (scaled_term k) (take i entries) → after ≡ before ++ scaled_term k e ∷ [] → after ≡ map (scaled_term k) (take (i + 1) entries)
+scaled_push k entries i e before after h is start now =
+    let F : ℕ × Decimal → Type 0 = λ f. map (scaled_term k) (take (i + 1) entries) ≡ map (scaled_term k) (take i entries) ++ scaled_term k f ∷ [] in
+    let more = subst F (sym is) (map_more (scaled_term k) entries i e h) in
+    now ∙ ap (λ s. s ++ scaled_term k e ∷ []) start ∙ sym more
+
+narrow_more : (terms : List Term) (t : Term) → list_any is_wide_number (map (λ t. t.1) terms) ≡ false → is_wide_number t.1 ≡ false
+    → list_any is_wide_number (map (λ t. t.1) (terms ++ t ∷ [])) ≡ false
+narrow_more [] t h w = or_from _ _ w refl
+narrow_more (u ∷ terms) t h w = let parts = or_parts (is_wide_number u.1) _ h in or_from _ _ parts.0 (narrow_more terms t parts.1 w)
+
+pub narrow_push : (before after : List Term) (t : Term) → list_any is_wide_number (map (λ t. t.1) before) ≡ false → unsigned_abs t.1 < 2 ^ 100 → after ≡ before ++ t ∷ []
+    → list_any is_wide_number (map (λ t. t.1) after) ≡ false
+narrow_push before after t h w now =
+    let F : List Term → Type 0 = λ ts. list_any is_wide_number (map (λ t. t.1) ts) ≡ false in
+    subst F (sym now) (narrow_more before t h (lt-leb (2 ^ 100) (unsigned_abs t.1) w))
+
 -- ---- the gcd of a row's numbers
 
 is_narrow : (z : ℤ) → is_wide_number z ≡ false → unsigned_abs z < 2 ^ 100

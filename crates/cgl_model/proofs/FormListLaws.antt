@@ -1,6 +1,6 @@
 -- One row or one column more.
 use Rattle.std.proofs.Common.{Bool, ◌==◌, ◌≡◌, ℕ, zero, suc, ℤ, ◌+◌, ◌*◌, ◌^◌, drop, cond, true, false, add-one, ◌≤◌, ◌<◌, ap, refl, sym, ◌∙◌, subst, arith, List, [], ◌∷◌, ◌++◌, length, get_or, take}
-use Rattle.std.proofs.lemmas.List.{append-nil, append_assoc, length-append, length-take-le, take_more}
+use Rattle.std.proofs.lemmas.List.{append-nil, append_assoc, get_or_default, length-append, length-take-le, take_all, take_more}
 use Rattle.std.specs.Prelude.{Option, Some, None, option_map, slice_get}
 use Rattle.std.proofs.Math.Seq.{drop-cons}
 use Rattle.std.proofs.lemmas.Bool.{and_parts, eqb-true}
@@ -77,6 +77,21 @@ side_step m rows r row shape before after h is own start now =
 pub list_rises : (m : Model) (r : ℕ) (entries : List (ℕ × Decimal)) → entries ≡ row_entries m r → RiseFrom 0 entries
 list_rises m r entries e = let F : List (ℕ × Decimal) → Type 0 = RiseFrom 0 in subst F (sym e) (entries_rise r 0 m.cols)
 
+-- the entries that were read for row r
+pub entries_read : (m : Model) (lists items : List (List (ℕ × Decimal))) (rows : List Row) (r : ℕ) (d entries : List (ℕ × Decimal)) → entries ≡ get_or lists r d → lists ≡ items
+    → length items ≡ length m.rows → rows ≡ m.rows → r < length rows → ((k : ℕ) → k < length items → get_or items k [] ≡ row_entries m k) → entries ≡ row_entries m r
+entries_read m lists items rows r d entries is e size f h all =
+    let count = ap length f in
+    let inside : r < length items = omega (arith, size, count) in
+    is ∙ ap (λ l. get_or l r d) e ∙ get_or_default items r d [] inside ∙ all r inside
+
+pub all_shapes : (m : Model) (rows : List Row) (r : ℕ) (shapes : List RowShape) → length rows ≤ r → rows ≡ m.rows → shapes ≡ row_shapes_from m 0 (take r rows) → shapes ≡ row_shapes m
+all_shapes m rows r shapes h e is = is ∙ ap (row_shapes_from m 0) (take_all r rows h ∙ e)
+
+pub all_row_sides : (m : Model) (rows : List Row) (r : ℕ) (sides : List Side) → length rows ≤ r → rows ≡ m.rows → sides ≡ row_sides_from 0 (row_shapes_from m 0 (take r rows))
+    → sides ≡ row_sides_from 0 (row_shapes m)
+all_row_sides m rows r sides h e is = is ∙ ap (λ xs. row_sides_from 0 (row_shapes_from m 0 xs)) (take_all r rows h ∙ e)
+
 abbrev pub Same : FormList → FormList → Type 0
 Same f g = f ≡ g
 
@@ -131,13 +146,6 @@ columns_count j (c ∷ cols) =
     let two = upper_bound_count j c.up in
     let rest = columns_count (j + 1) cols in
     omega (arith, length-append (column_sides j c) (column_sides_from (j + 1) cols), length-append (lower_bound_side j c.lo) (upper_bound_side j c.up), one, two, rest)
-
-pub few_row_sides : (m : Model) (sides : List Side) → length m.rows ≤ 2 ^ 20 → sides ≡ row_sides_from 0 (row_shapes m) → length sides ≤ 2 ^ 22
-few_row_sides m sides h e =
-    let size = ap length e in
-    let count = rows_count 0 (row_shapes m) in
-    let rows = length_shapes m 0 m.rows in
-    omega (arith, size, count, rows)
 
 pub few_sides : (m : Model) (first sides : List Side) (cols : List Column) → length m.rows ≤ 2 ^ 20 → length cols ≤ 2 ^ 20 → first ≡ row_sides_from 0 (row_shapes m)
     → sides ≡ first ++ column_sides_from 0 cols → length sides ≤ 2 ^ 22

@@ -1,16 +1,16 @@
-ghost use Rattle.std.specs.Prelude.{◌≡◌, ℕ, ◌<◌, ◌≤◌, ◌^◌, [], None, Some, length, slice_index_or, IfNone, IfOk, IfSome, MatchOption};
+ghost use Rattle.std.specs.Prelude.{◌≡◌, ℕ, ◌<◌, ◌≤◌, ◌^◌, ◌++◌, ◌∷◌, [], None, Some, length, slice_index_or, IfNone, IfOk, IfSome, MatchOption, OnOk};
 ghost use Rattle.cgl_model.specs.Absent.{IsNowhere, IsSideAt};
 ghost use Rattle.cgl_model.specs.FormList.{form_at, is_wide_at, same_end, same_place, side_number};
 ghost use Rattle.cgl_model.specs.HasDecimals.{HasDecimals};
-ghost use Rattle.cgl_model.specs.IntegerForm.{forms_of, row_shapes, row_sides_from};
+ghost use Rattle.cgl_model.specs.IntegerForm.{forms_of, row_shape, row_shapes, row_sides, row_sides_from};
 ghost use Rattle.cgl_model.specs.PlaceOrder.{end_rank, rank, IsSideList, RanksRise};
-ghost use Rattle.cgl_model.specs.RowEntries.{row_entries};
+ghost use Rattle.cgl_model.specs.RowEntries.{RiseFrom};
 
 use crate::row_lists::entries_of_rows;
 use crate::row_shape::shape_of_row;
 use crate::side_list::{add_column_sides, add_row_sides};
-use crate::{End, Entries, Place, Seq, Side, Terms};
-use cgl_num::Memory;
+use crate::{End, Place, Row, Seq, Side, Terms};
+use cgl_num::{Dec, Memory};
 use std::alloc::Global;
 
 /// A row that is not N in whole numbers, divided by the gcd of its coefficients, its right side and its range: the
@@ -53,26 +53,45 @@ impl std::marker::Model for Forms {
     ghost invariant = { λ it. IsSideList it.sides };
 }
 
-/// The forms of all rows, and their sides.
-fn forms_of_rows(alloc: Global, m: &crate::Model, lists: &[Entries]) -> Result<Forms, Memory>
-    requires size { length m.now.rows ≤ 2 ^ 20 }
-    requires count { length lists.now ≡ length m.now.rows }
-    requires lists { (r : ℕ) → r < length lists.now → slice_index_or lists.now r [] ≡ row_entries m.now r }
-    ensures rows { IfOk result (λ f. f.rows ≡ row_shapes m.now) }
-    ensures sides { IfOk result (λ f. f.sides ≡ row_sides_from 0 (row_shapes m.now)) }
+/// Appends the form of a row, and its sides.
+fn add_row(
+    alloc: Global,
+    shapes: &mut Seq<RowShape>,
+    sides: &mut Seq<Side>,
+    r: u32,
+    entries: &[(u32, Dec)],
+    row: &Row,
+) -> Result<(), Memory>
+    requires { RiseFrom 0 entries.now }
+    ensures shapes { OnOk result (shapes.new ≡ shapes.old ++ row_shape entries.now row.now ∷ []) }
+    ensures sides { OnOk result (sides.new ≡ sides.old ++ row_sides r (row_shape entries.now row.now)) }
 {
-    let mut shapes = Seq::new(alloc);
-    let mut sides = Seq::new(alloc);
+    let shape = shape_of_row(alloc, entries, row)?;
+    add_row_sides(alloc, sides, r, &shape)?;
+    shapes.push(shape)
+}
+
+/// Fills empty lists with the forms of all rows, and their sides.
+fn add_rows(
+    alloc: Global,
+    shapes: &mut Seq<RowShape>,
+    sides: &mut Seq<Side>,
+    m: &crate::Model,
+) -> Result<(), Memory>
+    requires shapes { shapes.old ≡ [] }
+    requires sides { sides.old ≡ [] }
+    requires rows { length m.now.rows ≤ 2 ^ 20 }
+    requires columns { length m.now.cols ≤ 2 ^ 20 }
+    ensures shapes { OnOk result (shapes.new ≡ row_shapes m.now) }
+    ensures sides { OnOk result (sides.new ≡ row_sides_from 0 (row_shapes m.now)) }
+{
+    let lists = entries_of_rows(alloc, m)?;
+    let entries = lists.as_slice();
     let rows = m.rows.as_slice();
     for (r, row) in rows.iter().enumerate() {
-        let shape = shape_of_row(alloc, lists[r].as_slice(), row)?;
-        add_row_sides(alloc, &mut sides, r as u32, &shape)?;
-        shapes.push(shape)?;
+        add_row(alloc, shapes, sides, r as u32, entries[r].as_slice(), row)?;
     }
-    Ok(Forms {
-        rows: shapes,
-        sides,
-    })
+    Ok(())
 }
 
 impl Forms {
@@ -88,8 +107,9 @@ impl Forms {
         ensures decimals { HasDecimals m.now }
     {
         m.has_decimals();
-        let lists = entries_of_rows(alloc, m)?;
-        let Forms { rows, mut sides } = forms_of_rows(alloc, m, lists.as_slice())?;
+        let mut rows = Seq::new(alloc);
+        let mut sides = Seq::new(alloc);
+        add_rows(alloc, &mut rows, &mut sides, m)?;
         add_column_sides(alloc, &mut sides, m.cols.as_slice())?;
         Ok(Forms { rows, sides })
     }

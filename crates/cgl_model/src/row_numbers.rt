@@ -1,4 +1,4 @@
-ghost use Rattle.std.specs.Prelude.{◌≡◌, ◌≤◌, ◌<◌, ◌^◌, ◌∷◌, unsigned_abs, false, map, option_map, option_to_list, pos, true, IfErr, IfOk};
+ghost use Rattle.std.specs.Prelude.{◌≡◌, ◌≤◌, ◌<◌, ◌^◌, ◌++◌, ◌∷◌, [], unsigned_abs, false, map, option_map, option_to_list, pos, true, IfErr, IfOk, OnOk};
 ghost use Rattle.std.specs.List.{All, list_any};
 ghost use Rattle.std.specs.Option.{IfSome};
 ghost use Rattle.cgl_num.specs.Decimal.{places, scaled};
@@ -19,10 +19,32 @@ pub struct RowNumbers {
 }
 
 /// Why a row has no whole numbers: one of them reaches 2^100, or want of memory.
-#[derive(Clone, Copy, Debug, PartialEq, Eq)]
+#[derive(Clone, Copy)]
 pub enum Refusal {
     Wide,
     Memory,
+}
+
+/// Appends 10^k times a number, with its column.
+fn push_scaled(
+    coeffs: &mut Seq<(u32, i128)>,
+    k: u32,
+    column: u32,
+    number: Dec,
+) -> Result<(), Refusal>
+    requires within { k ≤ 30 }
+    requires whole { places number ≤ k }
+    ensures value { OnOk result (coeffs.new ≡ coeffs.old ++ (column, scaled k number) ∷ []) }
+    ensures narrow { OnOk result (unsigned_abs (scaled k number) < 2 ^ 100) }
+    ensures wide { IfErr result (λ e. e ≡ Refusal.Wide → 2 ^ 100 ≤ unsigned_abs (scaled k number)) }
+{
+    let Some(coefficient) = scale(k, number) else {
+        return Err(Refusal::Wide);
+    };
+    let Ok(()) = coeffs.push((column, coefficient)) else {
+        return Err(Refusal::Memory);
+    };
+    Ok(())
 }
 
 fn scale_entries(alloc: Global, k: u32, entries: &[(u32, Dec)]) -> Result<Seq<(u32, i128)>, Refusal>
@@ -34,12 +56,7 @@ fn scale_entries(alloc: Global, k: u32, entries: &[(u32, Dec)]) -> Result<Seq<(u
 {
     let mut coeffs = Seq::new(alloc);
     for entry in entries {
-        let Some(coefficient) = scale(k, entry.1) else {
-            return Err(Refusal::Wide);
-        };
-        let Ok(()) = coeffs.push((entry.0, coefficient)) else {
-            return Err(Refusal::Memory);
-        };
+        push_scaled(&mut coeffs, k, entry.0, entry.1)?;
     }
     Ok(coeffs)
 }
@@ -75,11 +92,11 @@ pub fn scale_row(
     ensures narrow { IfOk result (λ n. list_any is_wide_number (row_numbers n) ≡ false) }
     ensures wide { IfErr result (λ e. e ≡ Refusal.Wide → list_any is_wide_number (row_numbers (scaled_row k entries.now row.now)) ≡ true) }
 {
-    let coeffs = scale_entries(alloc, k, entries)?;
     let Some(rhs) = scale(k, row.rhs) else {
         return Err(Refusal::Wide);
     };
     let range = scale_range(k, row.range)?;
+    let coeffs = scale_entries(alloc, k, entries)?;
     Ok(RowNumbers { coeffs, rhs, range })
 }
 

@@ -3,7 +3,7 @@ use Rattle.std.specs.Prelude.{FitsSigned}
 use Rattle.std.specs.Int.{w128}
 use Rattle.std.proofs.lemmas.Int.{ints, to_z-of_z, unsigned_abs-mul}
 use Rattle.std.proofs.lemmas.Result.{err_from_is_err_and}
-use Rattle.cgl_model.proofs.TermLaws.{sum_from, magnitudes_from}
+use Rattle.cgl_model.proofs.TermLaws.{column_at, magnitudes_all, magnitudes_from, sum_all, sum_from}
 use Rattle.cgl_model.proofs.violation.sum_of.Goals as goal
 
 pub returns-in_err-products-clause-wide : goal.returns-in_err-products-clause-wide
@@ -37,3 +37,18 @@ loop-term-preserved c =
       narrow = search rules;
       within = omega (arith, ints, sum, magnitude, product, c.loop-term.invariant.within);
     }
+
+pub bounds-numbers-term : goal.bounds-numbers-term
+bounds-numbers-term c = column_at _ c.args.terms.now c.loop-term.term-index (0, pos 0) c.requires.columns (omega arith)
+
+pub returns-clause-sum : goal.returns-clause-sum
+returns-clause-sum c = sum_all c.args.numbers.now c.args.terms.now c.loop-term.term-index _ (omega arith) c.loop-term.invariant.sum
+
+pub returns-clause-magnitude : goal.returns-clause-magnitude
+returns-clause-magnitude c = magnitudes_all c.args.numbers.now c.args.terms.now c.loop-term.term-index _ _ (omega arith) c.loop-term.invariant.magnitude
+
+pub returns-clause-narrow : goal.returns-clause-narrow
+returns-clause-narrow c = c.loop-term.invariant.narrow
+
+pub returns-clause-within : goal.returns-clause-within
+returns-clause-within c = c.loop-term.invariant.within

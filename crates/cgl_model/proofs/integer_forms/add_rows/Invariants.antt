@@ -1,6 +1,6 @@
 use Rattle.std.proofs.Common.{◌≡◌, take}
 use Rattle.cgl_model.specs.IntegerForm.{row_shapes_from, row_sides_from}
-use Rattle.cgl_model.proofs.integer_forms.forms_of_rows.Given as goal
+use Rattle.cgl_model.proofs.integer_forms.add_rows.Given as goal
 
 abbrev pub invariant-loop-r : goal.invariant-loop-r
 invariant-loop-r l = record {
