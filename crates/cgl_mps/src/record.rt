@@ -4,7 +4,7 @@ ghost use Rattle.cgl_mps.specs.Records.{place, same_section, field};
 use std::marker::Model;
 
 /// The section in which a line stands.
-#[derive(Clone, Copy, Debug, PartialEq, Eq)]
+#[derive(Clone, Copy)]
 pub enum Section {
     Start,
     Name,
@@ -45,7 +45,7 @@ impl Section {
     }
 }
 
-#[derive(Clone, Copy, Debug, PartialEq, Eq)]
+#[derive(Clone, Copy)]
 pub enum BoundKind {
     Lo,
     Li,
