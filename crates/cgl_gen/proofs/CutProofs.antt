@@ -32,7 +32,7 @@ use Rattle.cgl_derive.specs.Derives.{Judge, is_integer, AreColumns, AreIntegers,
 use Rattle.cgl_derive.proofs.RoundSound.{rounding_sound}
 use Rattle.cgl_gen.specs.CutLaws.{IsListable, IsCutAt}
 use Rattle.cgl_gen.specs.RoundMember.{divisor_of, ceiling, rounded, round_from, round_member, divides, is_large, is_wide_cut, is_wide_at, is_violated}
-use Rattle.cgl_gen.proofs.RoundLaws.{divisor_above}
+use Rattle.cgl_gen.proofs.RoundLaws.{by_sign, divisor_above}
 
 and_true : (a b : Bool) → (a && b) ≡ true → (a ≡ true) × (b ≡ true)
 and_true true b e = (refl, e)
@@ -43,9 +43,6 @@ or_false true b e = absurd (true≢false e)
 or_false false b e = (refl, e)
 
 -- ---- rounding up
-
-by_sign : (z g : ℤ) → (b : Bool) → int_lt (pos 0) (int_rem z g) ≡ b → ceiling z g ≡ int_div z g +ℤ cond b (pos 1) (pos 0)
-by_sign z g b e = ap (λ t. int_div z g +ℤ cond t (pos 1) (pos 0)) e
 
 lt_true : (r : ℤ) → pos 0 <ℤ r → int_lt (pos 0) r ≡ true
 lt_true r h = grind (arith, ints)

@@ -1,8 +1,8 @@
 -- Laws of the terms of a rounded inequality.
-use Rattle.std.proofs.Common.{◌≡◌, ℕ, zero, suc, ◌-◌, ◌<◌, ◌≤◌, List, [], ◌∷◌, ◌++◌, map, length, take, drop, get_or, refl, sym, ap, ◌∙◌, subst, arith, Bool, true, false, not, ◌||◌, cond, ◌==◌}
+use Rattle.std.proofs.Common.{◌≡◌, ℕ, zero, suc, ◌-◌, ◌/◌, ◌<◌, ◌≤◌, List, [], ◌∷◌, ◌++◌, map, length, take, drop, get_or, refl, sym, ap, ◌∙◌, subst, arith, Bool, true, false, not, ◌||◌, cond, ◌==◌, to_z, of_z}
 use Rattle.std.proofs.lemmas.Bool.{true≢false, false≢true}
-use Rattle.std.specs.Prelude.{ℤ, pos, negsuc, unsigned_abs, int_div, ◌<ℤ◌, ◌*ℤ◌, ◌^◌}
-use Rattle.std.proofs.lemmas.Int.{ints}
+use Rattle.std.specs.Prelude.{ℤ, pos, negsuc, unsigned_abs, int_div, int_rem, int_lt, ◌<ℤ◌, ◌+ℤ◌, ◌*ℤ◌, ◌^◌}
+use Rattle.std.proofs.lemmas.Int.{ints, fits_signed_from_abs, to_z-of_z, quot_fits, quot_is, rem_is}
 use Rattle.std.specs.List.{All, list_all}
 use Rattle.std.specs.Int.{◌∣◌, w128}
 use Rattle.std.specs.Int.RustNames.{FitsSigned}
@@ -11,8 +11,8 @@ use Rattle.std.proofs.lemmas.List.Elements.{All-head, All-tail}
 use Rattle.cgl_num.proofs.GcdLaws.{gcd_of_divides, gcd_zero}
 use Rattle.cgl_num.proofs.FractionLaws.{exact_quotient, abs_quotient}
 use Rattle.cgl_model.specs.declared.linear.Ineq.{Ineq}
-use Rattle.std.proofs.Math.Nat.{div-le_self}
-use Rattle.std.proofs.Math.IntN.{zero-*ℤ}
+use Rattle.std.proofs.Math.Nat.{div-le_self, div-add-mod'}
+use Rattle.std.proofs.Math.IntN.{neg_ℤ, zero-*ℤ}
 use Rattle.std.proofs.Math.Seq.{drop-cons}
 use Rattle.cgl_num.specs.Gcd.{gcd, gcd_of}
 use Rattle.cgl_model.specs.Inequality.{Term, AreColumnsBelow}
@@ -30,7 +30,7 @@ use Rattle.cgl_derive.specs.Derives.{is_integer}
 use Rattle.cgl_model.specs.declared.mip.Model.{Model}
 use Rattle.cgl_model.specs.declared.places.Side.{Side}
 use Rattle.cgl_model.specs.Point.{Point}
-use Rattle.cgl_gen.specs.RoundMember.{divisor_of, round_from, round_member, divides, answer_with, rounded}
+use Rattle.cgl_gen.specs.RoundMember.{ceiling, divisor_of, round_from, round_member, divides, answer_with, rounded}
 
 -- the column of a term is above those before it
 pub above_taken : (terms : List Term) (i : ℕ) (d : Term) → IsRising terms → i < length terms → IsAboveAll (take i terms) (get_or terms i d).0
@@ -91,6 +91,54 @@ quotient_at terms i d g r h e = subst (λ (z : ℤ). IsCoefficient (int_div (get
 pub narrow_fits : (z : ℤ) → unsigned_abs z < 2 ^ 127 → FitsSigned w128 z
 narrow_fits (pos n) h = record { sfits = h }
 narrow_fits (negsuc n) h = record { sfits = omega arith }
+
+-- ---- a number over a divisor, rounded up
+
+pub by_sign : (z g : ℤ) → (b : Bool) → int_lt (pos 0) (int_rem z g) ≡ b → ceiling z g ≡ int_div z g +ℤ cond b (pos 1) (pos 0)
+by_sign z g b e = ap (λ t. int_div z g +ℤ cond t (pos 1) (pos 0)) e
+
+pub above_word : (g : ℤ) → pos 0 <ℤ g → 0 < of_z w128 g
+above_word (pos zero) h = absurd (omega (arith, ints))
+above_word (pos (suc n)) h = omega arith
+above_word (negsuc n) h = absurd h.lt
+
+plus_none : (z : ℤ) → z ≡ z +ℤ pos 0
+plus_none z = omega (arith, ints)
+
+-- the remainder's sign, as the numbers are held in words
+rem_sign : (z g : ℤ) (b : Bool) → FitsSigned w128 z → FitsSigned w128 g → int_lt (pos 0) (to_z w128 (of_z w128 (int_rem (to_z w128 (of_z w128 z)) (to_z w128 (of_z w128 g))))) ≡ b → int_lt (pos 0) (int_rem z g) ≡ b
+rem_sign z g b f h e = ap (int_lt (pos 0)) (sym (rem_is w128 z g f h)) ∙ e
+
+neg_next_fits : (a : ℕ) → a ≤ 2 ^ 127 → FitsSigned w128 (neg_ℤ (pos a) +ℤ pos 1)
+neg_next_fits zero h = record { sfits = omega arith }
+neg_next_fits (suc zero) h = record { sfits = omega arith }
+neg_next_fits (suc (suc a)) h = fits_signed_from_abs w128 _ (omega (arith, ints))
+
+next_fits : (z g : ℤ) → FitsSigned w128 z → pos 0 <ℤ g → int_lt (pos 0) (int_rem z g) ≡ true → FitsSigned w128 (int_div z g +ℤ pos 1)
+next_fits (pos n) (pos zero) f h e = absurd (omega (arith, ints))
+next_fits (pos n) (pos (suc k)) f h e = record { sfits = omega (arith, ints, div-add-mod' n (suc k), f.sfits, e) }
+next_fits (negsuc n) (pos k) f h e = neg_next_fits (suc n / k) (omega (arith, f.sfits, div-le_self (suc n) k))
+next_fits z (negsuc k) f h e = absurd h.lt
+
+pub next_fits_word : (z g : ℤ) → FitsSigned w128 z → FitsSigned w128 g → pos 0 <ℤ g
+    → int_lt (pos 0) (to_z w128 (of_z w128 (int_rem (to_z w128 (of_z w128 z)) (to_z w128 (of_z w128 g))))) ≡ true
+    → FitsSigned w128 (to_z w128 (of_z w128 (int_div (to_z w128 (of_z w128 z)) (to_z w128 (of_z w128 g)))) +ℤ pos 1)
+next_fits_word z g f h p e =
+    subst (λ q. FitsSigned w128 (q +ℤ pos 1)) (sym (quot_is w128 z g f h (quot_fits w128 z g f p))) (next_fits z g f p (rem_sign z g true f h e))
+
+pub next_is_ceiling : (z g : ℤ) → FitsSigned w128 z → FitsSigned w128 g → pos 0 <ℤ g
+    → int_lt (pos 0) (to_z w128 (of_z w128 (int_rem (to_z w128 (of_z w128 z)) (to_z w128 (of_z w128 g))))) ≡ true
+    → to_z w128 (of_z w128 (to_z w128 (of_z w128 (int_div (to_z w128 (of_z w128 z)) (to_z w128 (of_z w128 g)))) +ℤ pos 1)) ≡ ceiling z g
+next_is_ceiling z g f h p e =
+    let sign = rem_sign z g true f h e in
+    ap (λ q. to_z w128 (of_z w128 (q +ℤ pos 1))) (quot_is w128 z g f h (quot_fits w128 z g f p))
+    ∙ to_z-of_z w128 _ (next_fits z g f p sign) ∙ sym (by_sign z g true sign)
+
+pub quotient_is_ceiling : (z g : ℤ) → FitsSigned w128 z → FitsSigned w128 g → pos 0 <ℤ g
+    → int_lt (pos 0) (to_z w128 (of_z w128 (int_rem (to_z w128 (of_z w128 z)) (to_z w128 (of_z w128 g))))) ≡ false
+    → to_z w128 (of_z w128 (int_div (to_z w128 (of_z w128 z)) (to_z w128 (of_z w128 g)))) ≡ ceiling z g
+quotient_is_ceiling z g f h p e =
+    quot_is w128 z g f h (quot_fits w128 z g f p) ∙ plus_none (int_div z g) ∙ sym (by_sign z g false (rem_sign z g false f h e))
 
 abs_zero : (z : ℤ) → unsigned_abs z ≡ 0 → z ≡ pos 0
 abs_zero (pos n) e = ap pos e
