@@ -1,5 +1,5 @@
 -- Laws of the terms of a rounded inequality.
-use Rattle.std.proofs.Common.{◌≡◌, ℕ, zero, suc, ◌-◌, ◌/◌, ◌<◌, ◌≤◌, List, [], ◌∷◌, ◌++◌, map, length, take, drop, get_or, refl, sym, ap, ◌∙◌, subst, arith, Bool, true, false, not, ◌||◌, cond, ◌==◌, to_z, of_z}
+use Rattle.std.proofs.Common.{◌≡◌, ℕ, zero, suc, ◌+◌, ◌-◌, ◌/◌, ◌<◌, ◌≤◌, List, [], ◌∷◌, ◌++◌, map, length, take, drop, get_or, refl, sym, ap, ◌∙◌, subst, arith, Bool, true, false, not, ◌||◌, cond, ◌==◌, to_z, of_z}
 use Rattle.std.proofs.lemmas.Bool.{true≢false, false≢true}
 use Rattle.std.specs.Prelude.{ℤ, pos, negsuc, unsigned_abs, int_div, int_rem, int_lt, ◌<ℤ◌, ◌+ℤ◌, ◌*ℤ◌, ◌^◌}
 use Rattle.std.proofs.lemmas.Int.{ints, fits_signed_from_abs, to_z-of_z, quot_fits, quot_is, rem_is}
@@ -87,6 +87,22 @@ quotient_coefficient a g c d = record {
 
 pub quotient_at : (terms : List Term) (i : ℕ) (d : Term) (g : ℤ) → IsRising terms → i < length terms → g ≡ pos (divisor_of terms) → IsCoefficient (int_div (get_or terms i d).1 g)
 quotient_at terms i d g r h e = subst (λ (z : ℤ). IsCoefficient (int_div (get_or terms i d).1 z)) (sym e) (quotient_coefficient (get_or terms i d).1 (divisor_of terms) (coefficient_at terms i d r h) (divisor_at terms i d h))
+
+map_next : (f : Term → Term) (terms : List Term) (i : ℕ) (d : Term) → i < length terms → map f (take i terms) ++ (f (get_or terms i d) ∷ []) ≡ map f (take (suc i) terms)
+map_next f [] i d h = absurd (omega arith)
+map_next f (t ∷ []) zero d h = refl
+map_next f (t ∷ u ∷ terms) zero d h = refl
+map_next f (t ∷ terms) (suc i) d h = ap (λ z. f t ∷ z) (map_next f terms i d (omega arith))
+
+-- one divided term more
+pub divided_push : (items terms so_far new : List Term) (i : ℕ) (d : Term) (g q : ℤ) → items ≡ terms → i < length items
+    → so_far ≡ map (λ t. (t.0, int_div t.1 g)) (take i terms) → q ≡ int_div (get_or items i d).1 g → new ≡ so_far ++ (((get_or items i d).0, q) ∷ [])
+    → new ≡ map (λ t. (t.0, int_div t.1 g)) (take (i + 1) terms)
+divided_push items terms so_far new i d g q same h before quotient is =
+    let f : Term → Term = λ t. (t.0, int_div t.1 g) in
+    let next : suc i ≡ i + 1 = omega arith in
+    is ∙ ap (λ z. so_far ++ (((get_or items i d).0, z) ∷ [])) quotient ∙ ap (λ z. z ++ (f (get_or items i d) ∷ [])) (before ∙ ap (λ z. map f (take i z)) (sym same))
+    ∙ map_next f items i d h ∙ ap (λ k. map f (take k items)) next ∙ ap (λ z. map f (take (i + 1) z)) same
 
 pub narrow_fits : (z : ℤ) → unsigned_abs z < 2 ^ 127 → FitsSigned w128 z
 narrow_fits (pos n) h = record { sfits = h }
