@@ -1,7 +1,7 @@
 -- Laws of the terms of a rounded inequality.
-use Rattle.std.proofs.Common.{◌≡◌, ℕ, zero, suc, ◌+◌, ◌-◌, ◌/◌, ◌<◌, ◌≤◌, List, [], ◌∷◌, ◌++◌, map, length, take, drop, get_or, refl, sym, ap, ◌∙◌, subst, arith, Bool, true, false, not, ◌||◌, cond, ◌==◌, to_z, of_z}
+use Rattle.std.proofs.Common.{◌≡◌, ℕ, zero, suc, ◌+◌, ◌-◌, ◌/◌, ◌<◌, ◌≤◌, List, [], ◌∷◌, ◌++◌, map, length, take, drop, get_or, refl, sym, ap, ◌∙◌, subst, arith, Bool, true, false, not, ◌||◌, cond, ◌==◌, to_z, of_z, Some, None}
 use Rattle.std.proofs.lemmas.Bool.{true≢false, false≢true}
-use Rattle.std.specs.Prelude.{ℤ, pos, negsuc, unsigned_abs, int_div, int_rem, int_lt, ◌<ℤ◌, ◌+ℤ◌, ◌*ℤ◌, ◌^◌}
+use Rattle.std.specs.Prelude.{ℤ, pos, negsuc, unsigned_abs, int_div, int_rem, int_lt, ◌<ℤ◌, ◌+ℤ◌, ◌*ℤ◌, ◌^◌, is_some, unwrap_or, option_map, nat_lt, slice_get, slice_index_or}
 use Rattle.std.proofs.lemmas.Int.{ints, fits_signed_from_abs, to_z-of_z, quot_fits, quot_is, rem_is}
 use Rattle.std.specs.List.{All, list_all}
 use Rattle.std.specs.Int.{◌∣◌, w128}
@@ -15,7 +15,8 @@ use Rattle.std.proofs.Math.Nat.{div-le_self, div-add-mod'}
 use Rattle.std.proofs.Math.IntN.{neg_ℤ, zero-*ℤ}
 use Rattle.std.proofs.Math.Seq.{drop-cons}
 use Rattle.cgl_num.specs.Gcd.{gcd, gcd_of}
-use Rattle.cgl_model.specs.Inequality.{Term, AreColumnsBelow}
+use Rattle.cgl_num.specs.Fraction.{Fraction}
+use Rattle.cgl_model.specs.Inequality.{Term, AreColumnsBelow, violation}
 use Rattle.cgl_model.specs.Rising.{IsAboveAll, IsRising, IsCoefficient}
 use Rattle.cgl_model.specs.declared.places.Place.{Place}
 use Rattle.cgl_derive.specs.declared.step.Ref.TheVariants as by
@@ -25,12 +26,12 @@ use Rattle.cgl_derive.specs.declared.step.Step.TheVariants as variant
 use Rattle.cgl_derive.specs.declared.step.Step.TheVariants.{rolls-Round}
 use Rattle.cgl_derive.specs.declared.step.Derivation.{Derivation, roll-Derivation}
 use Rattle.cgl_derive.specs.declared.answer.Answer.{Answer}
-use Rattle.cgl_derive.specs.declared.answer.Answer.TheVariants.{Nothing}
+use Rattle.cgl_derive.specs.declared.answer.Answer.TheVariants.{Nothing, Cut, Wide}
 use Rattle.cgl_derive.specs.Derives.{is_integer}
 use Rattle.cgl_model.specs.declared.mip.Model.{Model}
 use Rattle.cgl_model.specs.declared.places.Side.{Side}
 use Rattle.cgl_model.specs.Point.{Point}
-use Rattle.cgl_gen.specs.RoundMember.{ceiling, divisor_of, round_from, round_member, divides, answer_with, rounded}
+use Rattle.cgl_gen.specs.RoundMember.{ceiling, divisor_of, round_from, round_member, divides, answer_with, rounded, is_wide_cut, is_wide_at, is_violated}
 
 -- the column of a term is above those before it
 pub above_taken : (terms : List Term) (i : ℕ) (d : Term) → IsRising terms → i < length terms → IsAboveAll (take i terms) (get_or terms i d).0
@@ -224,3 +225,32 @@ divisor_above (t ∷ terms) r e =
 pub columns_map : (n : ℕ) (f : Term → Term) → ((t : Term) → (f t).0 ≡ t.0) → (terms : List Term) → AreColumnsBelow n terms → AreColumnsBelow n (map f terms)
 columns_map n f same [] a = tt
 columns_map n f same (t ∷ terms) a = (subst (λ (c : ℕ). c < n) (sym (same t)) a.0, columns_map n f same terms a.1)
+
+-- ---- the answer with a cut
+
+pub wide_answer : (side : Side) (x : Point) (g : ℤ) (c : Ineq) → (is_wide_cut c || is_wide_at c x) ≡ true → Wide ≡ answer_with side x g c
+wide_answer side x g c e = ap (λ b. cond b Wide (cond (is_violated c x) (Cut (record { cut = c; derivation = round_from side.place g c; violation = violation c x })) Nothing)) (sym e)
+
+judged : (side : Side) (x : Point) (g : ℤ) (c : Ineq) (b : Bool) → (is_wide_cut c || is_wide_at c x) ≡ false → is_violated c x ≡ b
+    → cond b (Cut (record { cut = c; derivation = round_from side.place g c; violation = violation c x })) Nothing ≡ answer_with side x g c
+judged side x g c b e f =
+    let A : Answer = Cut (record { cut = c; derivation = round_from side.place g c; violation = violation c x }) in
+    ap (λ t. cond t A Nothing) (sym f) ∙ ap (λ t. cond t Wide (cond (is_violated c x) A Nothing)) (sym e)
+
+none_judged : (b : Bool) (f : Fraction) → None ≡ cond b (Some f) None → b ≡ false
+none_judged true f e = absurd (false≢true (ap is_some e))
+none_judged false f e = refl
+
+some_judged : (b : Bool) (f v : Fraction) → Some v ≡ cond b (Some f) None → (b ≡ true) × (v ≡ f)
+some_judged true f v e = (refl, ap (λ o. unwrap_or o f) e)
+some_judged false f v e = absurd (true≢false (ap is_some e))
+
+pub no_answer : (side : Side) (x : Point) (g : ℤ) (c : Ineq) → (is_wide_cut c || is_wide_at c x) ≡ false → None ≡ cond (is_violated c x) (Some (violation c x)) None → Nothing ≡ answer_with side x g c
+no_answer side x g c e f = judged side x g c false e (none_judged (is_violated c x) (violation c x) f)
+
+pub cut_answer : (side : Side) (x : Point) (g h : ℤ) (c : Ineq) (v : Fraction) → h ≡ g → (is_wide_cut c || is_wide_at c x) ≡ false → Some v ≡ cond (is_violated c x) (Some (violation c x)) None
+    → Cut (record { cut = c; derivation = round_from side.place h c; violation = v }) ≡ answer_with side x g c
+cut_answer side x g h c v same e f =
+    let is = some_judged (is_violated c x) (violation c x) v f in
+    ap (λ z. Cut (record { cut = c; derivation = round_from side.place z c; violation = v })) same
+    ∙ ap (λ z. Cut (record { cut = c; derivation = round_from side.place g c; violation = z })) is.1 ∙ judged side x g c true e is.0
