@@ -1,6 +1,8 @@
 -- Laws of the terms of a rounded inequality.
 use Rattle.std.proofs.Common.{◌≡◌, ℕ, zero, suc, ◌+◌, ◌-◌, ◌/◌, ◌<◌, ◌≤◌, List, [], ◌∷◌, ◌++◌, map, length, take, drop, get_or, refl, sym, ap, ◌∙◌, subst, arith, Bool, true, false, not, ◌||◌, cond, ◌==◌, to_z, of_z, Some, None}
 use Rattle.std.proofs.lemmas.Bool.{true≢false, false≢true}
+use Rattle.std.proofs.lemmas.Bool.Decides.{nat_tests}
+use Rattle.std.proofs.lemmas.Option.{slice_get-get_or}
 use Rattle.std.specs.Prelude.{ℤ, pos, negsuc, unsigned_abs, int_div, int_rem, int_lt, ◌<ℤ◌, ◌+ℤ◌, ◌*ℤ◌, ◌^◌, is_some, unwrap_or, option_map, nat_lt, slice_get, slice_index_or}
 use Rattle.std.proofs.lemmas.Int.{ints, fits_signed_from_abs, to_z-of_z, quot_fits, quot_is, rem_is}
 use Rattle.std.specs.List.{All, list_all}
@@ -28,6 +30,7 @@ use Rattle.cgl_derive.specs.declared.step.Derivation.{Derivation, roll-Derivatio
 use Rattle.cgl_derive.specs.declared.answer.Answer.{Answer}
 use Rattle.cgl_derive.specs.declared.answer.Answer.TheVariants.{Nothing, Cut, Wide}
 use Rattle.cgl_derive.specs.Derives.{is_integer}
+use Rattle.cgl_model.specs.declared.mip.Column.{Column}
 use Rattle.cgl_model.specs.declared.mip.Model.{Model}
 use Rattle.cgl_model.specs.declared.places.Side.{Side}
 use Rattle.cgl_model.specs.Point.{Point}
@@ -254,3 +257,19 @@ cut_answer side x g h c v same e f =
     let is = some_judged (is_violated c x) (violation c x) v f in
     ap (λ z. Cut (record { cut = c; derivation = round_from side.place z c; violation = v })) same
     ∙ ap (λ z. Cut (record { cut = c; derivation = round_from side.place g c; violation = z })) is.1 ∙ judged side x g c true e is.0
+
+-- ---- whether a column is integer
+
+pub integer_at : (m : Model) (items : List Column) (j : ℕ) (d x : Column) → items ≡ m.cols → nat_lt j (length items) ≡ true → x ≡ slice_index_or items j d → x.integer ≡ is_integer m j
+integer_at m items j d x same inside is =
+    let found : slice_get items j ≡ Some (get_or items j d) = slice_get-get_or items j d (grind (arith, nat_tests)) in
+    ap (λ z. z.integer) is ∙ ap (λ o. unwrap_or (option_map (λ c. c.integer) o) false) (sym found) ∙ ap (λ z. unwrap_or (option_map (λ c. c.integer) (slice_get z j)) false) same
+
+past_end : (cols : List Column) (j : ℕ) → length cols ≤ j → false ≡ unwrap_or (option_map (λ c. c.integer) (slice_get cols j)) false
+past_end [] j h = refl
+past_end (c ∷ cols) zero h = absurd (omega arith)
+past_end (c ∷ cols) (suc j) h = past_end cols j (omega arith)
+
+pub integer_past : (m : Model) (items : List Column) (j : ℕ) → items ≡ m.cols → nat_lt j (length items) ≡ false → false ≡ is_integer m j
+integer_past m items j same past =
+    past_end items j (grind (arith, nat_tests)) ∙ ap (λ z. unwrap_or (option_map (λ c. c.integer) (slice_get z j)) false) same
