@@ -5,7 +5,7 @@ use Rattle.cgl_gen.proofs.column.is_integer.Goals as goal
 pub returns-in-Some : goal.returns-in-Some
 returns-in-Some c =
     let lookup = c.in-Some.ensures.lookup in
-    integer_at c.args.model.now c.as_slice.result.now c.args.column _ c.in-Some.column.now c.as_slice.ensures (sym lookup.0) lookup.1
+    integer_at c.args.model.now c.as_slice.result.now c.args.column _ _ c.as_slice.ensures (sym lookup.0) lookup.1
 
 pub returns-in-None : goal.returns-in-None
 returns-in-None c =
