@@ -1,5 +1,5 @@
 -- The canonical text of a model decodes to the model.
-use Rattle.std.proofs.Common.{◌≡◌, ℕ, ◌≤◌, ◌^◌, List, length, IsSome, ◌+◌, ap, sym, ◌∙◌, if◌then◌else◌}
+use Rattle.std.proofs.Common.{◌≡◌, ℕ, ◌≤◌, ◌^◌, ◌⊎◌, List, length, take, IsSome, ◌+◌, ap, sym, ◌∙◌, if◌then◌else◌, inl, inr}
 use Rattle.cgl_num.proofs.ReadBackLaws.{bound-of-text, number-of-text}
 use Rattle.cgl_outside.specs.Shelf.{Held, file_of, with_file}
 use Rattle.cgl_outside.proofs.ShelfLaws.{file_of-with_file}
@@ -12,7 +12,7 @@ use Rattle.cgl_mps.specs.Models.{model_of}
 use Rattle.cgl_mps.specs.Records.{kept}
 use Rattle.cgl_deck.specs.DeckLines.{deck_lines, numbered}
 use Rattle.cgl_deck.specs.DeckText.{deck_text}
-use Rattle.cgl_deck.specs.StoredDeck.{HoldsDeck}
+use Rattle.cgl_deck.specs.StoredDeck.{HoldsDeck, HoldsPart}
 use Rattle.cgl_deck.proofs.DeckLineLaws.{line_sizes}
 use Rattle.cgl_deck.proofs.FaultlessLaws.{ends, faultless}
 use Rattle.cgl_deck.proofs.MeantLaws.{meant}
@@ -42,3 +42,9 @@ stored held now name written m valid decimals is stands told = record {
   text = is;
   decodes = λ short. ap decode is ∙ decodes m valid decimals (rw is at short);
 }
+
+-- a file that was written with a part of the text
+pub stored_part : (held now : Held) (name written : List ℕ) (m : Model) → written ≡ deck_text m
+    → (now ≡ held) ⊎ ((kept : ℕ) × (now ≡ with_file held name (take kept written))) → HoldsPart held now name m
+stored_part held now name written m is (inl same) = inl same
+stored_part held now name written m is (inr (kept, stands)) = inr (kept, stands ∙ ap (λ text. with_file held name (take kept text)) is)
