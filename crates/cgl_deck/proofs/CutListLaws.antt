@@ -1,11 +1,13 @@
--- Turns of the loops that hand the terms of cuts out to the lists of their columns.
-use Rattle.std.proofs.Common.{◌≡◌, List, ℕ, zero, suc, ◌+◌, ◌<◌, ◌≤◌, [], ◌∷◌, ◌++◌, length, length-append, get_or, take, drop, append_assoc, ap, refl, sym, ◌∙◌, arith, subst, Option, None, Some, take_all}
-use Rattle.std.proofs.lemmas.List.{take-append-le}
+-- Turns of the loops that make the rows of cuts and hand their terms out to the lists of their columns.
+use Rattle.std.proofs.Common.{◌≡◌, List, ℕ, zero, suc, ◌+◌, ◌<◌, ◌≤◌, [], ◌∷◌, ◌++◌, length, length-append, get_or, take, drop, append_assoc, ap, ap₂, refl, sym, ◌∙◌, arith, subst, Option, None, Some, take_all, map, min}
+use Rattle.std.specs.List.{zip}
+use Rattle.std.proofs.lemmas.List.{get_or_read, take-append-le}
 use Rattle.cgl_num.specs.Decimal.{Decimal}
 use Rattle.cgl_model.specs.declared.linear.Ineq.{Ineq}
+use Rattle.cgl_model.specs.declared.mip.Column.{Column}
 use Rattle.cgl_model.specs.Rising.{IsRising}
 use Rattle.cgl_model.specs.RowEntries.{onto_entries}
-use Rattle.cgl_deck.specs.Extended.{AreRising, coefficient_at, cut_entries}
+use Rattle.cgl_deck.specs.Extended.{AreRising, coefficient_at, cut_entries, extended_columns_from}
 use Rattle.cgl_deck.proofs.TurnLaws.{next_item}
 
 abbrev Entry : Type 0
@@ -57,3 +59,37 @@ lists_turn items old new next first k row n c cuts same kept n_is next_is lt is 
 pub rising_turn : {Q : Type 0} (cuts : List Ineq) (k : ℕ) (c : Ineq) → k < length cuts → c ≡ get_or cuts k c → IsRising c.terms
     → (AreRising (drop k cuts) → Q) → AreRising (drop (k + 1) cuts) → Q
 rising_turn cuts k c lt is here before rest = before (subst AreRising (sym (next_item cuts k c c lt is)) (here, rest))
+
+-- a copy of a column is added with its list, and those of the columns behind it are to come
+pub columns_turn : (done more all cols : List Column) (lists : List (List Entry)) (own entries : List Entry) (first j : ℕ) (cuts : List Ineq) (c : Column) → j < length cols → c ≡ get_or cols j c
+    → length lists ≡ length cols → own ≡ get_or lists j own → entries ≡ own → get_or lists j [] ≡ cut_entries j first cuts → more ≡ done ++ record c { entries = c.entries ++ entries } ∷ []
+    → done ++ extended_columns_from first j cuts (drop j cols) ≡ all → more ++ extended_columns_from first (j + 1) cuts (drop (j + 1) cols) ≡ all
+columns_turn done more all cols lists own entries first j cuts c lt is lengths own_is entries_are list_is now before =
+    let within : j < length lists = omega arith in
+    let told = entries_are ∙ get_or_read lists j own within own_is [] ∙ list_is in
+    let rest = extended_columns_from first (j + 1) cuts (drop (j + 1) cols) in
+    ap (λ m. m ++ rest) now ∙ append_assoc done (record c { entries = c.entries ++ entries } ∷ []) rest
+    ∙ ap (λ e. done ++ record c { entries = c.entries ++ e } ∷ rest) told
+    ∙ ap (λ l. done ++ extended_columns_from first j cuts l) (sym (next_item cols j c c lt is)) ∙ before
+
+none_beside : {X Y : Type 0} (xs : List X) (ys : List Y) → length ys ≡ 0 → zip xs ys ≡ []
+none_beside [] ys h = refl
+none_beside (x ∷ xs) [] h = refl
+none_beside (x ∷ xs) (y ∷ ys) h = absurd (omega arith)
+
+pub zip_ended : {X Y : Type 0} (xs : List X) (ys : List Y) (n : ℕ) → min (length xs) (length ys) ≤ n → zip (drop n xs) (drop n ys) ≡ []
+zip_ended [] ys zero le = refl
+zip_ended (x ∷ xs) [] zero le = refl
+zip_ended (x ∷ xs) (y ∷ ys) zero le = absurd (omega arith)
+zip_ended [] ys (suc n) le = refl
+zip_ended (x ∷ xs) [] (suc n) le = none_beside (drop n xs) [] refl
+zip_ended (x ∷ xs) (y ∷ ys) (suc n) le = zip_ended xs ys n (omega arith)
+
+-- the image of a pair is added, and those of the pairs behind it are to come
+pub zip_turn : {X Y Z : Type 0} (f : X × Y → Z) (done more all : List Z) (xs : List X) (ys : List Y) (k : ℕ) (x own : X) (y : Y) → k < length xs → k < length ys
+    → x ≡ get_or xs k x → y ≡ get_or ys k y → own ≡ x → more ≡ done ++ f (own, y) ∷ []
+    → done ++ map f (zip (drop k xs) (drop k ys)) ≡ all → more ++ map f (zip (drop (k + 1) xs) (drop (k + 1) ys)) ≡ all
+zip_turn f done more all xs ys k x own y x_lt y_lt x_is y_is own_is now before =
+    let rest = map f (zip (drop (k + 1) xs) (drop (k + 1) ys)) in
+    ap (λ m. m ++ rest) now ∙ append_assoc done (f (own, y) ∷ []) rest ∙ ap (λ w. done ++ f (w, y) ∷ rest) own_is
+    ∙ ap₂ (λ a b. done ++ map f (zip a b)) (sym (next_item xs k x x x_lt x_is)) (sym (next_item ys k y y y_lt y_is)) ∙ before

@@ -1,26 +1,10 @@
 -- Laws of lists that std lacks.
-use Rattle.std.proofs.Common.{◌≡◌, List, ℕ, suc, ◌+◌, ◌≤◌, [], ◌∷◌, ◌++◌, length, map, ap, ap₂, refl, sym, ◌∙◌, Bool, true, false, not, nat_lt, Option, Some, None, inl, inr, append-nil, append_assoc, arith}
-use Rattle.std.specs.List.{list_all, zip, prefix_len, position}
+use Rattle.std.proofs.Common.{◌≡◌, List, ℕ, suc, ◌+◌, ◌≤◌, [], ◌∷◌, ◌++◌, length, ap, refl, sym, ◌∙◌, Bool, true, false, not, nat_lt, Option, Some, None, inl, inr, append-nil, arith}
+use Rattle.std.specs.List.{list_all, prefix_len, position}
 use Rattle.std.proofs.lemmas.Bool.{and_parts, cases_Bool, cond-false, le-ltb, ltb-false}
 
 pub nothing_left : {X : Type 0} (done more all : List X) → more ≡ [] → done ++ more ≡ all → done ≡ all
 nothing_left done more all none h = sym (append-nil done) ∙ sym (ap (λ m. done ++ m) none) ∙ h
-
-pub zip_first_ended : {X Y : Type 0} (xs : List X) (ys : List Y) → length xs ≡ 0 → zip xs ys ≡ []
-zip_first_ended [] ys h = refl
-zip_first_ended (x ∷ xs) ys h = absurd (omega arith)
-
-pub zip_second_ended : {X Y : Type 0} (xs : List X) (ys : List Y) → length ys ≡ 0 → zip xs ys ≡ []
-zip_second_ended [] ys h = refl
-zip_second_ended (x ∷ xs) [] h = refl
-zip_second_ended (x ∷ xs) (y ∷ ys) h = absurd (omega arith)
-
--- the image of a pair is added, and those of the pairs behind it are to come
-pub zip_turn : {X Y Z : Type 0} (f : X × Y → Z) (done more all : List Z) (xs later_xs : List X) (ys later_ys : List Y) (x own : X) (y : Y) → xs ≡ x ∷ later_xs → ys ≡ y ∷ later_ys
-    → own ≡ x → more ≡ done ++ f (own, y) ∷ [] → done ++ map f (zip xs ys) ≡ all → more ++ map f (zip later_xs later_ys) ≡ all
-zip_turn f done more all xs later_xs ys later_ys x own y xs_is ys_is own_is now before =
-    ap (λ m. m ++ map f (zip later_xs later_ys)) now ∙ append_assoc done (f (own, y) ∷ []) (map f (zip later_xs later_ys))
-    ∙ ap (λ w. done ++ f (w, y) ∷ map f (zip later_xs later_ys)) own_is ∙ ap₂ (λ a b. done ++ map f (zip a b)) (sym xs_is) (sym ys_is) ∙ before
 
 all_in_prefix : {X : Type 0} (p : X → Bool) (xs : List X) → length xs ≤ prefix_len (λ x. not (not (p x))) xs → list_all p xs ≡ true
 all_in_prefix p [] le = refl

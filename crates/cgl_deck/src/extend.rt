@@ -1,4 +1,4 @@
-ghost use Rattle.std.specs.Prelude.{◌≡◌, ℕ, ◌+◌, ◌<◌, ◌≤◌, ◌^◌, [], ◌∷◌, ◌++◌, Some, is_some, length, map, position, slice_index_or, slice_set, sum_by, not, nat_lt, nat_le, zip, IfOk, IsErrOf, MatchOption, IsSome, IsTrue, OnOk};
+ghost use Rattle.std.specs.Prelude.{◌≡◌, ℕ, ◌+◌, ◌<◌, ◌≤◌, ◌^◌, List, [], ◌∷◌, ◌++◌, Some, is_some, length, map, position, slice_index_or, slice_set, sum_by, not, nat_lt, nat_le, zip, IfOk, IsErrOf, MatchOption, IsSome, IsTrue, OnOk};
 ghost use Rattle.std.specs.List.{list_all};
 ghost use Rattle.cgl_num.specs.Decimal.{decimal_of};
 ghost use Rattle.cgl_model.specs.Rising.{IsRising};
@@ -137,13 +137,25 @@ fn add_entries(entries: &mut Entries, more: &[(u32, Dec)]) -> Result<(), Memory>
     Ok(())
 }
 
+/// The entries, and more behind them.
+fn longer_entries(
+    alloc: Global,
+    entries: &[(u32, Dec)],
+    more: &[(u32, Dec)],
+) -> Result<Entries, Memory>
+    ensures { IfOk result (λ longer. longer ≡ entries.now ++ more.now) }
+{
+    let mut longer = Entries::new(alloc);
+    add_entries(&mut longer, entries)?;
+    add_entries(&mut longer, more)?;
+    Ok(longer)
+}
+
 /// A copy of a column with more entries.
 fn longer_column(alloc: Global, column: &Column, more: &[(u32, Dec)]) -> Result<Column, Memory>
     ensures { IfOk result (λ copy. copy ≡ record column.now { entries = column.now.entries ++ more.now }) }
 {
-    let mut entries = Entries::new(alloc);
-    add_entries(&mut entries, column.entries.as_slice())?;
-    add_entries(&mut entries, more)?;
+    let entries = longer_entries(alloc, column.entries.as_slice(), more)?;
     Ok(Column {
         name: copied_name(alloc, column.name.as_slice())?,
         integer: column.integer,
@@ -205,8 +217,8 @@ fn add_cut_rows(
     requires { IsTrue (list_all is_decimal cuts.now) }
     ensures { OnOk result (rows.new ≡ rows.old ++ map cut_row (zip names.now cuts.now)) }
 {
-    for (name, cut) in names.iter().zip(cuts) {
-        add_cut_row(alloc, rows, name.as_slice(), cut)?;
+    for k in 0..names.len().min(cuts.len()) {
+        add_cut_row(alloc, rows, names[k].as_slice(), &cuts[k])?;
     }
     Ok(())
 }
@@ -301,6 +313,23 @@ fn add_longer(
     columns.push(longer_column(alloc, column, more)?)
 }
 
+/// Copies of the columns, each with its list behind its entries.
+fn add_longer_columns(
+    alloc: Global,
+    columns: &mut Seq<Column>,
+    old: &[Column],
+    lists: &[Entries],
+) -> Result<(), Memory>
+    requires { length lists.now ≡ length old.now }
+    ensures { (first : ℕ) (cuts : List Ineq) → ((j : ℕ) → j < length old.now → slice_index_or lists.now j [] ≡ cut_entries j first cuts)
+        → OnOk result (columns.new ≡ columns.old ++ extended_columns_from first 0 cuts old.now) }
+{
+    for (j, column) in old.iter().enumerate() {
+        add_longer(alloc, columns, column, lists[j].as_slice())?;
+    }
+    Ok(())
+}
+
 fn longer_columns(
     alloc: Global,
     model: &Model,
@@ -315,13 +344,28 @@ fn longer_columns(
 {
     let lists = lists_of_cuts(alloc, model, first, cuts)?;
     let mut columns = Seq::new(alloc);
-    for (j, column) in model.cols.as_slice().iter().enumerate() {
-        add_longer(alloc, &mut columns, column, lists[j].as_slice())?;
-    }
+    add_longer_columns(alloc, &mut columns, model.cols.as_slice(), &lists)?;
     Ok(columns)
 }
 
 // ---- all
+
+/// The model with other rows and columns.
+fn with_parts(
+    alloc: Global,
+    model: &Model,
+    rows: Seq<Row>,
+    cols: Seq<Column>,
+) -> Result<Model, Memory>
+    ensures { IfOk result (λ n. n ≡ record model.now { rows = rows; cols = cols }) }
+{
+    Ok(Model {
+        name: copied_name(alloc, model.name.as_slice())?,
+        maximise: model.maximise,
+        rows,
+        cols,
+    })
+}
 
 fn extend(alloc: Global, model: &Model, cuts: &[Ineq]) -> Result<Model, Memory>
     requires known { IsTrue (list_all (is_known model.now) cuts.now) }
@@ -333,12 +377,7 @@ fn extend(alloc: Global, model: &Model, cuts: &[Ineq]) -> Result<Model, Memory>
     let first = model.rows.as_slice().len() as u32;
     let rows = named_rows(alloc, model, cuts)?;
     let cols = longer_columns(alloc, model, first, cuts)?;
-    Ok(Model {
-        name: copied_name(alloc, model.name.as_slice())?,
-        maximise: model.maximise,
-        rows,
-        cols,
-    })
+    with_parts(alloc, model, rows, cols)
 }
 
 /// The model with a G row behind its rows for each cut, in the order of the cuts. The rows have the names that
