@@ -1,13 +1,16 @@
 -- Turns of the loops that make the rows of cuts and hand their terms out to the lists of their columns.
-use Rattle.std.proofs.Common.{◌≡◌, List, ℕ, zero, suc, ◌+◌, ◌<◌, ◌≤◌, [], ◌∷◌, ◌++◌, length, length-append, get_or, take, drop, append_assoc, ap, ap₂, refl, sym, ◌∙◌, arith, subst, Option, None, Some, take_all, map, min}
-use Rattle.std.specs.List.{zip}
+use Rattle.std.proofs.Common.{◌≡◌, List, ℕ, zero, suc, ◌+◌, ◌<◌, ◌≤◌, [], ◌∷◌, ◌++◌, length, length-append, get_or, take, drop, append_assoc, ap, ap₂, refl, sym, ◌∙◌, arith, subst, Option, None, Some, take_all, map, min, nat_lt, Bool, true, IsTrue}
+use Rattle.std.specs.List.{list_all, zip}
 use Rattle.std.proofs.lemmas.List.{get_or_read, take-append-le}
+use Rattle.std.proofs.lemmas.List.Elements.{All-get_or}
+use Rattle.std.proofs.lemmas.List.Sums.{AllPass-from_list_all}
 use Rattle.cgl_num.specs.Decimal.{Decimal}
 use Rattle.cgl_model.specs.declared.linear.Ineq.{Ineq}
 use Rattle.cgl_model.specs.declared.mip.Column.{Column}
+use Rattle.cgl_model.specs.declared.mip.Model.{Model}
 use Rattle.cgl_model.specs.Rising.{IsRising}
 use Rattle.cgl_model.specs.RowEntries.{onto_entries}
-use Rattle.cgl_deck.specs.Extended.{AreRising, coefficient_at, cut_entries, extended_columns_from}
+use Rattle.cgl_deck.specs.Extended.{AreRising, coefficient_at, cut_entries, extended_columns_from, is_known}
 use Rattle.cgl_deck.proofs.TurnLaws.{next_item}
 
 abbrev Entry : Type 0
@@ -93,3 +96,10 @@ zip_turn f done more all xs ys k x own y x_lt y_lt x_is y_is own_is now before =
     let rest = map f (zip (drop (k + 1) xs) (drop (k + 1) ys)) in
     ap (λ m. m ++ rest) now ∙ append_assoc done (f (own, y) ∷ []) rest ∙ ap (λ w. done ++ f (w, y) ∷ rest) own_is
     ∙ ap₂ (λ a b. done ++ map f (zip a b)) (sym (next_item xs k x x x_lt x_is)) (sym (next_item ys k y y y_lt y_is)) ∙ before
+
+-- the cut of a turn passes what all cuts pass
+pub cut_passes : (p : Ineq → Bool) (cuts : List Ineq) (k : ℕ) (c : Ineq) → k < length cuts → c ≡ get_or cuts k c → IsTrue (list_all p cuts) → IsTrue (p c)
+cut_passes p cuts k c lt is all = ap p is ∙ All-get_or (λ x. p x ≡ true) cuts k c lt (AllPass-from_list_all p cuts all)
+
+pub terms_known : (m : Model) (n : ℕ) (c : Ineq) → n ≡ length m.cols → IsTrue (is_known m c) → IsTrue (list_all (λ t. nat_lt t.0 n) c.terms)
+terms_known m n c e h = subst (λ (k : ℕ). IsTrue (list_all (λ t. nat_lt t.0 k) c.terms)) (sym e) h
