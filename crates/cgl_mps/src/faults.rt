@@ -106,10 +106,11 @@ fn is_header_form(r: &Record) -> bool
 fn header_fault(before: &[Record], r: &Record) -> Option<u8>
     ensures { result ≡ first_kind (header_conditions before.now r.now) }
 {
-    if r.section().is(Section::Unsupported) {
+    let section = r.section();
+    if Section::Unsupported.is(section) {
         return Some(9);
     }
-    if r.section().is(Section::Unknown) {
+    if Section::Unknown.is(section) {
         return Some(1);
     }
     if is_misplaced(before, r) {
@@ -118,7 +119,7 @@ fn header_fault(before: &[Record], r: &Record) -> Option<u8>
     if !is_header_form(r) {
         return Some(3);
     }
-    if r.section().is(Section::Name) && is_long(field(r, 1)) {
+    if Section::Name.is(section) && is_long(field(r, 1)) {
         return Some(11);
     }
     None

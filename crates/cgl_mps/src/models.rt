@@ -1,9 +1,9 @@
 //! The model that the records of a deck mean.
 
-ghost use Rattle.std.specs.Prelude.{◌≡◌, IfOk, [], ◌∷◌, codes, filter_map, option_map};
+ghost use Rattle.std.specs.Prelude.{◌≡◌, IfOk, [], ◌∷◌, codes, false, filter_map, option_map, unwrap_or};
 ghost use Rattle.std.specs.List.{list_any};
 ghost use Rattle.cgl_text.specs.Text.{is_one_of};
-ghost use Rattle.cgl_mps.specs.Sections.{senses};
+ghost use Rattle.cgl_mps.specs.Sections.{sense_in, senses};
 ghost use Rattle.cgl_mps.specs.Models.{last_or, name_in, model_of};
 ghost use Rattle.cgl_text.specs.Seen.{word};
 
@@ -56,15 +56,24 @@ fn is_greatest(sense: &[u8]) -> bool
     same_bytes(sense, b"MAX") || same_bytes(sense, b"MAXIMIZE")
 }
 
+fn is_maximised(r: &Record) -> bool
+    ensures { result
+        ≡ unwrap_or
+        (option_map (is_one_of (codes "MAX" ∷ codes "MAXIMIZE" ∷ [])) (sense_in r.now)) false }
+{
+    match sense_in(r) {
+        Some(sense) => is_greatest(sense),
+        None => false,
+    }
+}
+
 fn maximises(records: &[Record]) -> bool
     ensures { result
         ≡ list_any (is_one_of (codes "MAX" ∷ codes "MAXIMIZE" ∷ [])) (senses records.now) }
 {
     for r in records {
-        if let Some(sense) = sense_in(r) {
-            if is_greatest(sense) {
-                return true;
-            }
+        if is_maximised(r) {
+            return true;
         }
     }
     false

@@ -1,6 +1,6 @@
 //! What one record, or a list of records, says.
 
-ghost use Rattle.std.specs.Prelude.{◌≡◌, ◌≤◌, ◌&&◌, false, length, map, not, option_map, true};
+ghost use Rattle.std.specs.Prelude.{◌≡◌, ◌≤◌, ◌&&◌, if◌then◌else◌, false, length, map, not, option_map, true};
 ghost use Rattle.std.specs.List.{list_any};
 ghost use Rattle.cgl_text.specs.Text.{is_one_of};
 ghost use Rattle.cgl_mps.specs.Records.{same_section, has_header, data_in};
@@ -42,15 +42,22 @@ pub(crate) fn is_sense(text: &[u8]) -> bool
         || same_bytes(text, b"MINIMIZE")
 }
 
+/// Where the sense stands among the fields of a line of OBJSENSE.
+fn sense_place(r: &Record) -> usize
+    ensures { result ≡ (if r.now.header then 1 else 0) }
+{
+    if r.is_header() { 1 } else { 0 }
+}
+
 /// The word that stands in the place of the sense.
 pub(crate) fn sense_in<'a>(r: &Record<'a>) -> Option<&'a [u8]>
     ensures { option_map word result ≡ sense_in r.now }
 {
-    if !r.section().is(Section::Sense) {
-        return None;
+    if Section::Sense.is(r.section()) {
+        r.fields().get(sense_place(r)).copied()
+    } else {
+        None
     }
-    let place = if r.is_header() { 1 } else { 0 };
-    r.fields().get(place).copied()
 }
 
 // ROWS
