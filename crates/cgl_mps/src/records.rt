@@ -1,8 +1,9 @@
 //! Lines of a deck as records.
 
-ghost use Rattle.std.specs.Prelude.{◌≡◌, IfOk};
-ghost use Rattle.cgl_text.specs.Text.{is_one_of, kept_fields};
-ghost use Rattle.cgl_mps.specs.Records.{is_end, is_kept, record_of, section_after, section_named, unsupported};
+ghost use Rattle.std.specs.Prelude.{◌≡◌, ◌&&◌, IfOk, if◌then◌else◌, not};
+ghost use Rattle.cgl_text.specs.Text.{begins_blank, is_one_of, no_field};
+ghost use Rattle.cgl_text.specs.Seen.{words};
+ghost use Rattle.cgl_mps.specs.Records.{first_word, is_end, is_kept, record_of, section_after, section_named, unsupported};
 
 use crate::record::{Record, Section};
 use cgl_num::Memory;
@@ -60,6 +61,26 @@ fn section_named(name: &[u8]) -> Section
     Section::Unknown
 }
 
+/// Whether the line, with these fields, is a header.
+fn is_header(line: &[u8], fields: &[&[u8]]) -> bool
+    ensures { result ≡ (not (begins_blank line.now) && not (no_field (words fields.now))) }
+{
+    !begins_blank(line) && !fields.is_empty()
+}
+
+/// The section in which a line with these fields stands, after a line in the section.
+fn section_after(section: Section, header: bool, fields: &[&[u8]]) -> Section
+    ensures { result ≡ (if header then section_named (first_word (words fields.now)) else section) }
+{
+    if !header {
+        return section;
+    }
+    match fields {
+        [first, ..] => section_named(first),
+        [] => section_named(&[]),
+    }
+}
+
 /// The record of line n, after a line in the section.
 pub(crate) fn record_of<'a>(
     alloc: Global,
@@ -72,16 +93,9 @@ pub(crate) fn record_of<'a>(
     let Ok(fields) = kept_fields(alloc, line) else {
         return Err(Memory);
     };
-    match fields.as_slice() {
-        [] => Ok(Record::new(n, line.len(), section, false, fields)),
-        [first, ..] => {
-            if begins_blank(line) {
-                return Ok(Record::new(n, line.len(), section, false, fields));
-            }
-            let named = section_named(first);
-            Ok(Record::new(n, line.len(), named, true, fields))
-        }
-    }
+    let header = is_header(line, fields.as_slice());
+    let section = section_after(section, header, fields.as_slice());
+    Ok(Record::new(n, line.len(), section, header, fields))
 }
 
 /// Whether the record has fields.
