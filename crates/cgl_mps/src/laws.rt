@@ -18,7 +18,6 @@ pub fn bounds_in_order()
 {}
 
 /// The bytes up to the one past the limit tell what a deck means, whatever follows them.
-#[tactic(auto, using(crate::proofs::FrontLaws::front_within, crate::proofs::FrontLaws::front_decides))]
 pub fn front_decides()
     ensures within { FrontWithin }
     ensures whole { FrontDecides }
