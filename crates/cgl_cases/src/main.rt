@@ -7,6 +7,7 @@ mod models;
 mod numbers;
 mod points;
 mod runs;
+mod violations;
 
 use runs::Bench;
 use std::alloc::{AllocError, Global};
@@ -22,6 +23,7 @@ fn tell(alloc: Global, out: &mut String, bench: &mut Bench, line: &str) -> Resul
         "sure" => bench.tell_sure_run(alloc, out, rest),
         "sides" | "names" | "text" => models::tell(alloc, out, word, rest),
         "point" => points::tell(alloc, out, rest),
+        "violation" => violations::tell(alloc, out, rest),
         _ => numbers::tell(alloc, out, line),
     }
 }

@@ -29,7 +29,7 @@ fn whole(word: &str) -> Option<i128>
 }
 
 /// The fraction of a word `NUM/DEN`.
-fn fraction(word: &str) -> Option<Frac> {
+pub fn fraction(word: &str) -> Option<Frac> {
     let (num, den) = word.split_once('/')?;
     let (num, den) = (whole(num)?, whole(den)?);
     if den <= 0 {
@@ -96,7 +96,7 @@ fn told(words: &[&str]) -> Option<Outcome> {
     }
 }
 
-fn put_fraction(out: &mut String, f: Frac) -> Result<(), AllocError> {
+pub fn put_fraction(out: &mut String, f: Frac) -> Result<(), AllocError> {
     let mut digits = [0; 80];
     let length = f.digits(&mut digits);
     put_text(out, &digits[..length])
