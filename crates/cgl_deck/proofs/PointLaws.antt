@@ -4,7 +4,7 @@ use Rattle.std.specs.Prelude.{◌+ℤ◌, ◌*ℤ◌, ◌≤ℤ◌}
 use Rattle.std.specs.List.{list_all}
 use Rattle.std.proofs.lemmas.Bool.{and_parts}
 use Rattle.std.proofs.Math.IntN.{*ℤ_comm}
-use Rattle.integer_laws.proofs.IntegerLaws.{*ℤ_assoc, +ℤ-*ℤ, scale_right}
+use Rattle.cgl_num.specs.IntegerLaws.{*ℤ_assoc, +ℤ-*ℤ, scale_right}
 use Rattle.cgl_num.specs.Decimal.{Decimal, decimal_of, zero_decimal, places}
 use Rattle.cgl_num.proofs.DecimalLaws.{scaled-more, whole-value, whole-places}
 use Rattle.cgl_model.specs.Inequality.{Term, sum_at}

@@ -5,7 +5,7 @@ use Rattle.std.specs.List.{AllZip}
 use Rattle.std.proofs.lemmas.Int.{ints}
 use Rattle.std.proofs.lemmas.Bool.{false≢true}
 use Rattle.std.proofs.Math.IntN.{*ℤ-zero, zero-*ℤ}
-use Rattle.integer_laws.proofs.IntegerLaws.{*ℤ_assoc, *ℤ-+ℤ, +ℤ-*ℤ, cancel_right, cancel_left, scale_right}
+use Rattle.cgl_num.specs.IntegerLaws.{*ℤ_assoc, *ℤ-+ℤ, +ℤ-*ℤ, cancel_right, cancel_left, scale_right}
 use Rattle.cgl_model.specs.declared.linear.Ineq.{Ineq}
 use Rattle.cgl_model.specs.declared.mip.Column.{Column}
 use Rattle.cgl_model.specs.declared.mip.Model.{Model}

@@ -8,7 +8,7 @@ use Rattle.std.proofs.lemmas.Bool.{true≢false, false≢true}
 use Rattle.std.proofs.lemmas.Bool.Decides.{nat_tests}
 use Rattle.std.proofs.lemmas.List.Elements.{All-head, All-tail}
 use Rattle.std.proofs.Math.IntN.{*ℤ_comm}
-use Rattle.integer_laws.proofs.IntegerLaws.{*ℤ-+ℤ}
+use Rattle.cgl_num.specs.IntegerLaws.{*ℤ-+ℤ}
 use Rattle.cgl_num.specs.Fraction.{Fraction}
 use Rattle.cgl_num.proofs.FractionLaws.{exact_quotient}
 use Rattle.cgl_num.proofs.GcdLaws.{gcd_of_divides}

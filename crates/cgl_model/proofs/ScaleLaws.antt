@@ -7,7 +7,7 @@ use Rattle.std.proofs.Math.IntN.{neg_ℤ, *ℤ_comm, zero-*ℤ}
 use Rattle.std.proofs.lemmas.Bool.{not-false}
 use Rattle.std.proofs.lemmas.Bool.Decides.{Decides-int_eq}
 use Rattle.std.proofs.lemmas.Int.{ints, unsigned_abs-mul}
-use Rattle.integer_laws.proofs.IntegerLaws.{*ℤ_assoc, +ℤ-*ℤ, neg-*ℤ, scale_right, cancel_right}
+use Rattle.cgl_num.specs.IntegerLaws.{*ℤ_assoc, +ℤ-*ℤ, neg-*ℤ, scale_right, cancel_right}
 use Rattle.cgl_num.specs.Decimal.{Decimal, IsDecimal, scaled, scaled_by, places, places_in}
 use Rattle.cgl_model.specs.declared.mip.RowKind.{RowKind}
 use Rattle.cgl_model.specs.declared.mip.RowKind.TheVariants.{N, L, G, E}

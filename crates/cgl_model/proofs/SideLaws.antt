@@ -7,7 +7,7 @@ use Rattle.std.proofs.lemmas.Int.{ints}
 use Rattle.std.proofs.Math.IntN.{neg_ℤ}
 use Rattle.std.proofs.Math.Nat.{one-le-pow}
 use Rattle.std.proofs.lemmas.Nat.{mul-le, pow-add}
-use Rattle.integer_laws.proofs.IntegerLaws.{*ℤ_assoc, neg-*ℤ, scale_right, cancel_right}
+use Rattle.cgl_num.specs.IntegerLaws.{*ℤ_assoc, neg-*ℤ, scale_right, cancel_right}
 use Rattle.cgl_num.specs.Decimal.{Decimal, IsDecimal, scaled, places}
 use Rattle.cgl_num.specs.Fraction.{Fraction, lowest}
 use Rattle.cgl_num.specs.Gcd.{gcd}

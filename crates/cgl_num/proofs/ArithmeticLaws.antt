@@ -7,7 +7,7 @@ use Rattle.std.proofs.lemmas.Bool.{cases_lt}
 use Rattle.std.proofs.Math.IntN.{*ℤ_comm, neg_ℤ}
 use Rattle.std.proofs.lemmas.Int.{ints, unsigned_abs-mul, by_lt_z}
 use Rattle.std.proofs.lemmas.Nat.Gcd.{dvd_refl, dvd_trans, IsGcd-swap, same_from_IsGcd}
-use Rattle.integer_laws.proofs.IntegerLaws.{*ℤ_assoc, +ℤ-*ℤ, *ℤ_swap, scale_right}
+use Rattle.cgl_num.specs.IntegerLaws.{*ℤ_assoc, +ℤ-*ℤ, *ℤ_swap, scale_right}
 use Rattle.cgl_num.specs.Gcd.{gcd}
 use Rattle.cgl_num.specs.Fraction.{Fraction, IsLowest, lowest}
 use Rattle.cgl_num.specs.FractionArithmetic.{plus}

@@ -9,7 +9,7 @@ use Rattle.std.proofs.lemmas.Bool.Decides.{nat_tests}
 use Rattle.std.specs.Int.Signed.{lt_z}
 use Rattle.cgl_num.specs.Decimal.{Decimal, zeros_within, normal_of, decimal_of, zero_decimal, magnitude_text, padded, sign_text, minus, IsDecimal, times_power, decimal_text, places_in, places, scaled_by, scaled}
 use Rattle.std.proofs.lemmas.Int.{ints}
-use Rattle.integer_laws.proofs.IntegerLaws.{*ℤ_assoc, neg-*ℤ}
+use Rattle.cgl_num.specs.IntegerLaws.{*ℤ_assoc, neg-*ℤ}
 
 pub not_below : (a b : ℕ) → b ≤ a → nat_lt a b ≡ false
 not_below a b h = grind (arith, nat_tests)

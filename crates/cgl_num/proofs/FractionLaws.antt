@@ -7,7 +7,7 @@ use Rattle.std.proofs.lemmas.Fmt.{length-decimal-le_wide}
 use Rattle.std.proofs.Math.Nat.{div-mul_cancel, div-le_self, zero-div}
 use Rattle.std.proofs.lemmas.Int.{ints}
 use Rattle.std.proofs.Math.IntN.{*ℤ_comm, zero-*ℤ, neg_ℤ}
-use Rattle.integer_laws.proofs.IntegerLaws.{neg-*ℤ, *ℤ_swap}
+use Rattle.cgl_num.specs.IntegerLaws.{neg-*ℤ, *ℤ_swap}
 use Rattle.std.specs.Ordering.{int_eq}
 use Rattle.std.proofs.lemmas.Bool.{cond-true, cond-false, false_from_ne_true}
 use Rattle.std.proofs.lemmas.Bool.Decides.{Decides-int_eq}

@@ -11,7 +11,7 @@ use Rattle.std.proofs.lemmas.Nat.{div-add-mod'}
 use Rattle.std.proofs.lemmas.Int.{ints, unsigned_abs-mul}
 use Rattle.std.proofs.Math.IntN.{neg_ℤ, *ℤ_comm}
 use Rattle.std.specs.Int.{◌∣◌}
-use Rattle.integer_laws.proofs.IntegerLaws.{neg-*ℤ, cancel_left}
+use Rattle.cgl_num.specs.IntegerLaws.{neg-*ℤ, cancel_left}
 use Rattle.cgl_num.specs.Gcd.{gcd}
 use Rattle.cgl_num.specs.Fraction.{Fraction, IsLowest}
 use Rattle.cgl_num.specs.FractionArithmetic.{IsFloor, less_whole}

@@ -4,7 +4,7 @@ use Rattle.std.specs.Prelude.{◌+ℤ◌, ◌-ℤ◌, ◌*ℤ◌, ◌<ℤ◌, un
 use Rattle.std.specs.Option.{MatchOption}
 use Rattle.std.proofs.lemmas.Int.{ints, by_lt_z}
 use Rattle.std.proofs.Math.IntN.{neg_ℤ}
-use Rattle.integer_laws.proofs.IntegerLaws.{neg-*ℤ}
+use Rattle.cgl_num.specs.IntegerLaws.{neg-*ℤ}
 use Rattle.cgl_num.specs.Gcd.{gcd}
 use Rattle.cgl_num.specs.Fraction.{Fraction, IsLowest, lowest}
 use Rattle.cgl_num.specs.FractionArithmetic.{plus, minus, times, IsWide, IsWideFraction, SumOverflows, DifferenceOverflows, IsSum}

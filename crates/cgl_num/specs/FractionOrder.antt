@@ -13,7 +13,7 @@ use Rattle.std.proofs.Math.Nat.{zero-lt-suc}
 use Rattle.std.proofs.lemmas.Bool.{true≢false}
 use Rattle.std.proofs.lemmas.Bool.Decides.{Decides-int_eq, Decides-and, Decides-like}
 use Rattle.std.proofs.Math.IntN.{*ℤ_comm}
-use Rattle.integer_laws.proofs.IntegerLaws.{*ℤ_assoc, cancel_right}
+use Rattle.cgl_num.specs.IntegerLaws.{*ℤ_assoc, cancel_right}
 use Rattle.cgl_num.specs.Fraction.{Fraction}
 use Rattle.cgl_num.specs.FractionArithmetic.{order_den, cross_cmp, fraction_order}
 

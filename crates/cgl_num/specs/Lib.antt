@@ -4,3 +4,4 @@ pub mod FractionArithmetic
 pub mod FractionOrder
 pub mod Decimal
 pub mod NumberText
+pub mod IntegerLaws

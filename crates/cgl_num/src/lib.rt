@@ -5,6 +5,7 @@ mod arithmetic;
 mod decimal;
 mod divisor;
 mod fraction;
+pub mod integer_laws;
 mod laws;
 mod laws_decimal;
 mod number_text;

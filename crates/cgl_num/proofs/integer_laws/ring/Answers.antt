@@ -1,5 +1,5 @@
-use Rattle.integer_laws.proofs.IntegerLaws.{*ℤ_assoc, +ℤ-*ℤ, *ℤ-+ℤ, *ℤ_swap}
-use Rattle.integer_laws.proofs.ring.Goals as goal
+use Rattle.cgl_num.specs.IntegerLaws.{*ℤ_assoc, +ℤ-*ℤ, *ℤ-+ℤ, *ℤ_swap}
+use Rattle.cgl_num.proofs.integer_laws.ring.Goals as goal
 
 pub returns-clause-assoc : goal.returns-clause-assoc
 returns-clause-assoc c = *ℤ_assoc

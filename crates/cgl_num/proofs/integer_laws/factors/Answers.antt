@@ -1,5 +1,5 @@
-use Rattle.integer_laws.proofs.IntegerLaws.{neg-*ℤ, cancel_left}
-use Rattle.integer_laws.proofs.factors.Goals as goal
+use Rattle.cgl_num.specs.IntegerLaws.{neg-*ℤ, cancel_left}
+use Rattle.cgl_num.proofs.integer_laws.factors.Goals as goal
 
 pub returns-clause-negated : goal.returns-clause-negated
 returns-clause-negated c = neg-*ℤ

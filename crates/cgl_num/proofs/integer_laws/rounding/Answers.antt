@@ -1,5 +1,5 @@
-use Rattle.integer_laws.proofs.IntegerLaws.{below_dividend, one_ceiling}
-use Rattle.integer_laws.proofs.rounding.Goals as goal
+use Rattle.cgl_num.specs.IntegerLaws.{below_dividend, one_ceiling}
+use Rattle.cgl_num.proofs.integer_laws.rounding.Goals as goal
 
 pub returns-clause-below : goal.returns-clause-below
 returns-clause-below c = below_dividend
