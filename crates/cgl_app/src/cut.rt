@@ -113,22 +113,14 @@ fn parts(alloc: Global, listed: Vec<Kept>) -> Result<(Vec<Ineq>, Vec<Derivation>
 /// Each cut with its derivation.
 fn pairs(
     alloc: Global,
-    mut cuts: Vec<Ineq>,
-    mut derivations: Vec<Derivation>,
+    cuts: Vec<Ineq>,
+    derivations: Vec<Derivation>,
 ) -> Result<Vec<(Ineq, Derivation)>, Memory>
     ensures { IfOk result (λ pairs. pairs.items ≡ zip cuts.items derivations.items) }
 {
-    cuts.reverse();
-    derivations.reverse();
-    let mut pairs = Vec::new(alloc);
-    'cuts: while let Some(cut) = cuts.pop() {
-        let Some(derivation) = derivations.pop() else {
-            return Ok(pairs);
-        };
-        let Ok(()) = pairs.push((cut, derivation)) else {
-            return Err(Memory);
-        };
-    }
+    let Ok(pairs) = cuts.into_iter().zip(derivations).collect(alloc) else {
+        return Err(Memory);
+    };
     Ok(pairs)
 }
 

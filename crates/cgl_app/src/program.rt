@@ -5,7 +5,6 @@ ghost use Rattle.cgl_app.specs.Meant.{meant};
 ghost use Rattle.std.specs.Prelude.{◌≡◌, map, string_bytes, Some};
 ghost use Rattle.cgl_app.specs.View.{view};
 ghost use Rattle.cgl_app.specs.Lines.{status_of};
-ghost use Rattle.cgl_app.specs.Ran.{Ran};
 ghost use Rattle.cgl_app.specs.Answered.{Answered};
 
 use crate::Refusal;
@@ -46,32 +45,6 @@ fn perform<S: Shelf, O: Sink>(
     }
 }
 
-/// Does what the words ask for, and tells on `err` why it could not.
-fn follow<S: Shelf, O: Sink, E: Sink>(
-    alloc: Global,
-    words: &[String],
-    shelf: &mut S,
-    out: &mut O,
-    err: &mut E,
-) -> u8
-    ensures { Ran (map string_bytes words.now)
-        (view (S.held shelf.old) (S.failed_reads shelf.old) (S.failed_writes shelf.old) (O.written out.old) (O.faults out.old))
-        (view (S.held shelf.new) (S.failed_reads shelf.new) (S.failed_writes shelf.new) (O.written out.new) (O.faults out.new))
-        (E.written err.old) (E.written err.new) (E.faults err.old) (E.faults err.new) result }
-{
-    let Some(command) = command_of(words) else {
-        say_usage(err);
-        return 2;
-    };
-    match perform(alloc, &command, shelf, out) {
-        Ok(()) => 0,
-        Err(refusal) => {
-            say_why(err, &command, refusal);
-            status_of(refusal)
-        }
-    }
-}
-
 /// Does what the words behind the program's name ask for, and gives the exit status.
 ///
 /// - `cut MODEL OUT PROOF --point FILE --gen round` reads the deck MODEL and the point FILE. It writes to OUT the deck
@@ -108,5 +81,15 @@ pub fn run<S: Shelf, O: Sink, E: Sink>(
         (view (S.held shelf.new) (S.failed_reads shelf.new) (S.failed_writes shelf.new) (O.written out.new) (O.faults out.new))
         (E.written err.old) (E.written err.new) (E.faults err.old) (E.faults err.new) result }
 {
-    follow(alloc, words, shelf, out, err)
+    let Some(command) = command_of(words) else {
+        say_usage(err);
+        return 2;
+    };
+    match perform(alloc, &command, shelf, out) {
+        Ok(()) => 0,
+        Err(refusal) => {
+            say_why(err, &command, refusal);
+            status_of(refusal)
+        }
+    }
 }
