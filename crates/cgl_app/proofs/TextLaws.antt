@@ -1,12 +1,14 @@
 -- From the steps of a cut in memory to its texts.
 use Rattle.std.specs.Result.{result_err}
-use Rattle.std.proofs.Common.{◌≡◌, ℕ, Bool, true, false, ◌||◌, List, [], ◌∷◌, length, map, zip, Some, None, Vec, Result, Ok, Err, IfErr, refl, sym, ap, subst, ◌∙◌, ◌⊎◌, inl, inr}
+use Rattle.std.proofs.Common.{◌≡◌, ◌^◌, ℕ, Bool, arith, nat_lt, true, false, ◌||◌, List, [], ◌∷◌, length, map, zip, Some, None, Vec, Result, Ok, Err, IfErr, refl, sym, ap, subst, ◌∙◌, ◌⊎◌, inl, inr}
+use Rattle.std.proofs.lemmas.Bool.Decides.{nat_tests}
 use Rattle.std.specs.declared.alloc.Global.{Global}
 use Rattle.cgl_model.specs.declared.linear.Ineq.{Ineq}
 use Rattle.cgl_model.specs.declared.mip.Model.{Model}
 use Rattle.cgl_model.specs.Point.{Point}
 use Rattle.cgl_derive.specs.declared.step.Derivation.{Derivation}
 use Rattle.cgl_deck.specs.CutNames.{cut_names}
+use Rattle.cgl_deck.specs.DeckLength.{most}
 use Rattle.cgl_deck.specs.DeckText.{deck_text}
 use Rattle.cgl_deck.specs.Extended.{extended}
 use Rattle.cgl_pool.specs.declared.pool.Kept.{Kept}
@@ -78,3 +80,6 @@ texts_made m x listed deck proofs report is t ep small er = record {
   proofs = ep ∙ ap (λ l. proof_text (map proof_of l)) is;
   report = er;
 }
+
+pub long_where_measured : (n : ℕ) (text : List ℕ) → n ≡ most (length text) → nat_lt (2 ^ 30) n ≡ is_too_long text
+long_where_measured n text e = grind (arith, nat_tests)
