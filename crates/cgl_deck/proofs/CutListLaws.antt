@@ -29,6 +29,9 @@ empty_more lists more x n now none before = (
   λ j. ap (λ l. get_or l j []) now ∙ empty_at lists x j none before.1,
 )
 
+pub lists_start : (items : List (List Entry)) (first j : ℕ) (cuts : List Ineq) → get_or items j [] ≡ [] → get_or items j [] ++ cut_entries j (first + 0) cuts ≡ cut_entries j first cuts
+lists_start items first j cuts none = let same : first + 0 ≡ first = omega arith in ap₂ (λ l r. l ++ cut_entries j r cuts) none same
+
 onto_front : (r : ℕ) (o : Option Decimal) (es : List Entry) → onto_entries r o [] ++ es ≡ onto_entries r o es
 onto_front r None es = refl
 onto_front r (Some d) es = refl
@@ -96,6 +99,12 @@ zip_turn f done more all xs ys k x own y x_lt y_lt x_is y_is own_is now before =
     let rest = map f (zip (drop (k + 1) xs) (drop (k + 1) ys)) in
     ap (λ m. m ++ rest) now ∙ append_assoc done (f (own, y) ∷ []) rest ∙ ap (λ w. done ++ f (w, y) ∷ rest) own_is
     ∙ ap₂ (λ a b. done ++ map f (zip a b)) (sym (next_item xs k x x x_lt x_is)) (sym (next_item ys k y y y_lt y_is)) ∙ before
+
+-- a copy of an item is added, and those of the items behind it are to come
+pub copy_turn : {X : Type 0} (done more all xs : List X) (i : ℕ) (x : X) → i < length xs → x ≡ get_or xs i x → more ≡ done ++ x ∷ []
+    → done ++ drop i xs ≡ all → more ++ drop (i + 1) xs ≡ all
+copy_turn done more all xs i x lt is now before =
+    ap (λ m. m ++ drop (i + 1) xs) now ∙ append_assoc done (x ∷ []) (drop (i + 1) xs) ∙ ap (λ l. done ++ l) (sym (next_item xs i x x lt is)) ∙ before
 
 -- the cut of a turn passes what all cuts pass
 pub cut_passes : (p : Ineq → Bool) (cuts : List Ineq) (k : ℕ) (c : Ineq) → k < length cuts → c ≡ get_or cuts k c → IsTrue (list_all p cuts) → IsTrue (p c)

@@ -24,6 +24,9 @@ AreWords words = AllByRecursion (λ w. IsTrue (is_word w)) words
 byte_parts : (b : ℕ) → is_name_byte b ≡ true → (is_blank b ≡ false) × (eqb b 10 ≡ false)
 byte_parts b h = or_parts (is_blank b) (eqb b 10) (not-true _ h)
 
+no_empty_word : {P : Type 0} → IsTrue (is_word []) → P
+no_empty_word is = absurd (cc)
+
 field_goes_on : (b : ℕ) (text : List ℕ) → is_blank b ≡ false → begins_blank text ≡ false → fields_of (b ∷ text) ≡ onto_first b (fields_of text)
 field_goes_on b text full goes_on =
     ap (λ c. cond c (fields_of text) (cond (begins_blank text) ((b ∷ []) ∷ fields_of text) (onto_first b (fields_of text)))) full
@@ -43,7 +46,7 @@ field_first b (d ∷ bytes) rest all ends =
     ∙ ap (onto_first b) (field_first d bytes rest here.1 ends)
 
 word_first : (word : Word) (rest : List ℕ) → IsTrue (is_word word) → begins_blank rest ≡ true → fields_of (word ++ rest) ≡ word ∷ fields_of rest
-word_first [] rest is ends = cc
+word_first [] rest is ends = no_empty_word is
 word_first (b ∷ bytes) rest is ends = field_first b bytes rest (and_parts (nat_lt 0 (length (b ∷ bytes))) (list_all is_name_byte (b ∷ bytes)) is).1 ends
 
 spaces_first : (words : List Word) → begins_blank (behind_spaces words) ≡ true
@@ -145,7 +148,7 @@ section_read before section word words bytes header fields named =
 
 header_read : (before section : Section) (word : Word) (words : List Word) → AreWords (word ∷ words) → section_named word ≡ section → is_comment word ≡ false
     → IsRead before true section (word ∷ words) (word ++ behind_spaces words)
-header_read before section [] words h named plain = cc
+header_read before section [] words h named plain = no_empty_word h.0
 header_read before section (b ∷ bytes) words h named plain =
     let text = (b ∷ bytes) ++ behind_spaces words in
     let fields : kept_fields text ≡ (b ∷ bytes) ∷ words = header_kept b bytes (behind_spaces words) plain ∙ word_first (b ∷ bytes) (behind_spaces words) h.0 (spaces_first words)

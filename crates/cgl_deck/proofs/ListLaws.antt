@@ -1,7 +1,9 @@
 -- Laws of lists that std lacks.
-use Rattle.std.proofs.Common.{◌≡◌, List, ℕ, suc, ◌+◌, ◌≤◌, [], ◌∷◌, ◌++◌, length, ap, refl, sym, ◌∙◌, Bool, true, false, not, nat_lt, Option, Some, None, inl, inr, append-nil, arith}
+use Rattle.std.proofs.Common.{◌≡◌, List, ℕ, suc, ◌+◌, ◌<◌, ◌≤◌, [], ◌∷◌, ◌++◌, length, get_or, drop, ap, refl, sym, ◌∙◌, Bool, true, false, ◌&&◌, not, nat_lt, Option, Some, None, inl, inr, append-nil, arith}
 use Rattle.std.specs.List.{list_all, prefix_len, position}
+use Rattle.std.proofs.lemmas.List.{drop_all}
 use Rattle.std.proofs.lemmas.Bool.{and_parts, cases_Bool, cond-false, le-ltb, ltb-false}
+use Rattle.cgl_deck.proofs.TurnLaws.{next_item}
 
 pub nothing_left : {X : Type 0} (done more all : List X) → more ≡ [] → done ++ more ≡ all → done ≡ all
 nothing_left done more all none h = sym (append-nil done) ∙ sym (ap (λ m. done ++ m) none) ∙ h
@@ -45,3 +47,24 @@ one_fails p xs k h =
       | inl e ↦ let none = none_found p xs e in absurd (cc)
       | inr e ↦ e
     ]
+
+-- ---- a loop that tests each item
+
+item_of : {X : Type 0} (p : X → Bool) (xs ys : List X) (i : ℕ) (d : X) (b : Bool) → xs ≡ ys → i < length xs → b ≡ p (get_or xs i d)
+    → list_all p (drop i ys) ≡ (b && list_all p (drop (i + 1) ys))
+item_of p xs ys i d b same lt is =
+    let within : i < length ys = omega (arith, ap length same) in
+    ap (list_all p) (next_item ys i d (get_or ys i d) within refl) ∙ ap (λ c. c && list_all p (drop (i + 1) ys)) (ap (λ l. p (get_or l i d)) (sym same) ∙ sym is)
+
+pub pass_turn : {X : Type 0} (p : X → Bool) (xs ys : List X) (i : ℕ) (d : X) (b all : Bool) → xs ≡ ys → i < length xs → b ≡ p (get_or xs i d) → b ≡ true
+    → list_all p (drop i ys) ≡ all → list_all p (drop (i + 1) ys) ≡ all
+pass_turn p xs ys i d b all same lt is passes before =
+    sym (ap (λ c. c && list_all p (drop (i + 1) ys)) passes) ∙ sym (item_of p xs ys i d b same lt is) ∙ before
+
+pub pass_stopped : {X : Type 0} (p : X → Bool) (xs ys : List X) (i : ℕ) (d : X) (b all : Bool) → xs ≡ ys → i < length xs → b ≡ p (get_or xs i d) → b ≡ false
+    → list_all p (drop i ys) ≡ all → all ≡ false
+pass_stopped p xs ys i d b all same lt is fails before =
+    sym before ∙ item_of p xs ys i d b same lt is ∙ ap (λ c. c && list_all p (drop (i + 1) ys)) fails
+
+pub pass_ended : {X : Type 0} (p : X → Bool) (xs ys : List X) (i : ℕ) (all : Bool) → xs ≡ ys → length xs ≤ i → list_all p (drop i ys) ≡ all → all ≡ true
+pass_ended p xs ys i all same le before = let beyond : length ys ≤ i = omega (arith, ap length same) in sym before ∙ ap (list_all p) (drop_all i ys beyond)

@@ -1,5 +1,5 @@
 -- Steps of the search for unused names.
-use Rattle.std.proofs.Common.{◌≡◌, List, ℕ, suc, ◌+◌, ◌-◌, ◌<◌, ◌≤◌, [], ◌∷◌, ◌++◌, length, filter, take, drop, get_or, map, ap, sym, ◌∙◌, Bool, true, false, ◌||◌, arith, inl, inr, append-nil, append_assoc, length-append, subst}
+use Rattle.std.proofs.Common.{◌≡◌, List, ℕ, suc, ◌+◌, ◌-◌, ◌<◌, ◌≤◌, [], ◌∷◌, ◌++◌, length, filter, take, drop, get_or, map, ap, ap₂, sym, ◌∙◌, Bool, true, false, ◌||◌, cond, not, arith, inl, inr, append-nil, append_assoc, length-append, subst}
 use Rattle.std.specs.Str.{bytes_eq}
 use Rattle.std.proofs.lemmas.Bool.{cases_Bool}
 use Rattle.cgl_num.specs.NumberText.{Word}
@@ -66,3 +66,16 @@ other_row_turn rows i row name own same all lt at own_is same_is other before =
     let here : bytes_eq name row.name ≡ false = ap (bytes_eq name) (sym own_is) ∙ sym same_is ∙ other in
     ap (λ b. b || is_one_of (map (λ r. r.name) (drop (i + 1) rows)) name) (sym here)
     ∙ ap (λ l. is_one_of (map (λ r. r.name) l) name) (sym (next_item rows i row row lt at)) ∙ before
+
+pub own_row_found : (rows : List Row) (i : ℕ) (row : Row) (name own : Word) (same all : Bool) → i < length rows → row ≡ get_or rows i row → own ≡ row.name
+    → same ≡ bytes_eq name own → same ≡ true → is_one_of (map (λ r. r.name) (drop i rows)) name ≡ all → true ≡ all
+own_row_found rows i row name own same all lt at own_is same_is found before =
+    let here : bytes_eq name row.name ≡ true = ap (bytes_eq name) (sym own_is) ∙ sym same_is ∙ found in
+    ap (λ b. b || is_one_of (map (λ r. r.name) (drop (i + 1) rows)) name) (sym here)
+    ∙ ap (λ l. is_one_of (map (λ r. r.name) l) name) (sym (next_item rows i row row lt at)) ∙ before
+
+pub unused_added : (m : Model) (name own : Word) (rows : List Row) (used : Bool) (names more : List Word) → rows ≡ m.rows → own ≡ name
+    → used ≡ is_one_of (map (λ r. r.name) rows) own → used ≡ false → more ≡ names ++ name ∷ [] → more ≡ names ++ filter (is_unused m) (name ∷ [])
+unused_added m name own rows used names more same own_is is unused now =
+    let other : is_one_of (map (λ r. r.name) m.rows) name ≡ false = ap₂ (λ l w. is_one_of (map (λ r. r.name) l) w) (sym same) (sym own_is) ∙ sym is ∙ unused in
+    now ∙ ap (λ b. names ++ cond (not b) (name ∷ []) []) (sym other)

@@ -56,6 +56,12 @@ pub column_known : (n i : ℕ) (terms : List Term) (d : Term) → i < length ter
 column_known n i terms d lt h =
     ltb-true (get_or terms i d).0 n (All-get_or (λ t. nat_lt t.0 n ≡ true) terms i d lt (AllPass-from_list_all (λ t. nat_lt t.0 n) terms h))
 
+pub column_known_at : (n m i : ℕ) (items terms : List Term) (d : Term) → items ≡ terms → m ≡ n → i < length items → IsTrue (list_all (λ t. nat_lt t.0 n) terms)
+    → (get_or items i d).0 < m
+column_known_at n m i items terms d same n_is lt h =
+    let within : i < length terms = omega (arith, ap length same) in
+    omega (arith, column_known n i terms d within h, ap (λ l. (get_or l i d).0) same)
+
 pub terms_turn : (lists first next : List (List Entry)) (row : ℕ) (all : List Term) (i : ℕ) (d t : Term) → i < length all → IsRising all
     → t ≡ get_or all i d → t.0 < length lists
     → next ≡ set lists t.0 (get_or lists t.0 [] ++ (row, decimal_or_zero t.1) ∷ [])

@@ -1,5 +1,5 @@
 -- Loops that add the text of each item of a list.
-use Rattle.std.proofs.Common.{◌≡◌, List, ℕ, suc, ◌+◌, ◌<◌, ◌≤◌, [], ◌∷◌, ◌++◌, length, length-append, get_or, drop, flat_map, map, append-nil, append_assoc, add-one, ap, ap₂, refl, sym, ◌∙◌, arith, codes, Bool, false}
+use Rattle.std.proofs.Common.{◌≡◌, List, ℕ, suc, ◌+◌, ◌<◌, ◌≤◌, [], ◌∷◌, ◌++◌, length, length-append, get_or, drop, flat_map, map, append-nil, append_assoc, add-one, ap, ap₂, refl, sym, ◌∙◌, arith, codes, cond, pos, int_lt, not, ◌&&◌, Bool, false}
 use Rattle.std.proofs.Math.Seq.{drop-cons}
 use Rattle.std.proofs.lemmas.List.{drop_all}
 use Rattle.cgl_num.specs.Decimal.{Decimal, decimal_text}
@@ -7,7 +7,7 @@ use Rattle.cgl_num.specs.NumberText.{Word}
 use Rattle.cgl_model.specs.declared.mip.Column.{Column}
 use Rattle.cgl_model.specs.declared.mip.Model.{Model}
 use Rattle.cgl_model.specs.declared.mip.Row.{Row}
-use Rattle.cgl_deck.specs.DeckText.{bound_text, column_text, columns_text, data_line, deck_text, entry_text, marker_text, name_text, range_text, rhs_text, row_name, row_text, section_text, sense_text}
+use Rattle.cgl_deck.specs.DeckText.{both_text, bound_line, bound_text, column_text, columns_text, data_line, deck_text, entry_text, is_zero_decimal, marker_text, name_text, range_text, rhs_text, row_name, row_text, section_text, sense_text}
 
 pub next_item : {X : Type 0} (xs : List X) (i : ℕ) (d x : X) → i < length xs → x ≡ get_or xs i d → drop i xs ≡ x ∷ drop (i + 1) xs
 next_item xs i d x lt is = rw add-one (drop-cons xs i d lt ∙ ap (λ v. v ∷ drop (suc i) xs) (sym is))
@@ -18,6 +18,13 @@ turn : {X : Type 0} (f : X → List ℕ) (rest : List X → List ℕ) (xs : List
 turn f rest xs i d x text more all first lt is now before =
     ap (λ t. t ++ rest (drop (i + 1) xs)) now ∙ append_assoc text (f x) (rest (drop (i + 1) xs))
     ∙ ap (λ l. text ++ l) (sym (first x (drop (i + 1) xs))) ∙ ap (λ l. text ++ rest l) (sym (next_item xs i d x lt is)) ∙ before
+
+-- parts that are added one behind another
+pub two_parts : (text a b some all : List ℕ) → some ≡ text ++ a → all ≡ some ++ b → all ≡ text ++ a ++ b
+two_parts text a b some all first second = second ∙ ap (λ t. t ++ b) first
+
+pub three_parts : (text a b d some more all : List ℕ) → some ≡ text ++ a → more ≡ some ++ b → all ≡ more ++ d → all ≡ text ++ a ++ b ++ d
+three_parts text a b d some more all first second third = third ∙ ap (λ t. t ++ d) (two_parts text a b some more first second)
 
 -- the text of an item is added, and that of the items behind it is to come
 pub item_turn : {X : Type 0} (f : X → List ℕ) (xs : List X) (i : ℕ) (x : X) (text more all : List ℕ) → i < length xs → x ≡ get_or xs i x
@@ -46,6 +53,9 @@ column_turn rows cols i c before text more all lt is now prior =
     ap (λ t. t ++ rest) (now ∙ append_assoc text own (column_text rows c)) ∙ append_assoc text (own ++ column_text rows c) rest
     ∙ ap (λ l. text ++ columns_text rows before l) (sym (next_item cols i c c lt is)) ∙ prior
 
+pub items_ended : {X : Type 0} (f : X → List ℕ) (xs : List X) (i : ℕ) (text all : List ℕ) → length xs ≤ i → text ++ flat_map f (drop i xs) ≡ all → text ≡ all
+items_ended f xs i text all le before = sym (append-nil text) ∙ ap (λ l. text ++ flat_map f l) (sym (drop_all i xs le)) ∙ before
+
 pub line_ended : {X : Type 0} (word : X → Word) (xs : List X) (i : ℕ) (text more all : List ℕ) → length xs ≤ i → text ++ data_line (map word (drop i xs)) ≡ all
     → more ≡ text ++ 10 ∷ [] → more ≡ all
 line_ended word xs i text more all le before now = now ∙ ap (λ l. text ++ data_line (map word l)) (sym (drop_all i xs le)) ∙ before
@@ -59,10 +69,19 @@ columns_ended rows cols i before text more all le prior now = now ∙ ap (λ l. 
 pub section_ready : {X : Type 0} (f : X → List ℕ) (xs : List X) (i : ℕ) (before head start text : List ℕ) → length xs ≤ i → start ≡ before ++ head
     → text ++ flat_map f (drop i xs) ≡ start ++ flat_map f xs → text ≡ before ++ head ++ flat_map f xs
 section_ready f xs i before head start text le opened h =
-    sym (append-nil text) ∙ ap (λ l. text ++ flat_map f l) (sym (drop_all i xs le)) ∙ h ∙ ap (λ s. s ++ flat_map f xs) opened
+    items_ended f xs i text (start ++ flat_map f xs) le h ∙ ap (λ s. s ++ flat_map f xs) opened
 
 pub section_start : (before head start : List ℕ) (n : ℕ) → n ≡ length start → start ≡ before ++ head → n ≡ length before + length head
 section_start before head start n is opened = is ∙ ap (λ (l : List ℕ). length l) opened ∙ length-append before head
+
+-- ---- bounds
+
+pub both_added : (name : Word) (l u : Decimal) (alone : Bool) (text low all : List ℕ) → alone ≡ (is_zero_decimal l && not (int_lt u.m (pos 0))) → alone ≡ false
+    → low ≡ text ++ bound_line (codes "LO") name (decimal_text l ∷ []) → all ≡ low ++ bound_line (codes "UP") name (decimal_text u ∷ []) → all ≡ text ++ both_text name l u
+both_added name l u alone text low all is other first second =
+    let lower = bound_line (codes "LO") name (decimal_text l ∷ []) in
+    let upper = bound_line (codes "UP") name (decimal_text u ∷ []) in
+    two_parts text lower upper low all first second ∙ append_assoc text lower upper ∙ ap (λ b. text ++ (cond b [] lower ++ upper)) (sym other ∙ is)
 
 -- ---- all
 

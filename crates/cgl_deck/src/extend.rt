@@ -10,28 +10,39 @@ use crate::names::{copied_name, cut_names};
 use cgl_model::{Column, Entries, Ineq, Model, Name, Row, RowKind, Seq};
 use cgl_num::{Dec, Memory};
 use std::alloc::Global;
-use thiserror::Error;
+use std::error::Error;
+use std::fmt;
 
 const MOST_ROWS: usize = 1 << 20;
 
 const MOST_ENTRIES: usize = 1 << 22;
 
 /// Why there is no model with these cuts as rows. Of several causes the one that stands first here is told.
-#[derive(Clone, Copy, Debug, PartialEq, Eq, Error)]
+#[derive(Clone, Copy, Debug, PartialEq, Eq)]
 pub enum ExtendError {
     /// The first cut, counted from 0, that names a column beyond the model.
-    #[error("cut {cut} names an unknown column")]
     Unknown { cut: u32 },
     /// The first cut, counted from 0, with an integer that is no decimal within the limits.
-    #[error("cut {cut} has a number out of the limits")]
     NotDec { cut: u32 },
     /// More than 2^20 rows or 2^22 entries.
-    #[error("too many rows or entries")]
     TooMany,
     /// Want of memory.
-    #[error("out of memory")]
     Memory,
 }
+
+impl fmt::Display for ExtendError {
+    fn fmt<W: fmt::Write>(&self, f: &mut fmt::Formatter<W>) -> fmt::Result {
+        let (cut, fault) = match self {
+            ExtendError::Unknown { cut } => (cut, "names an unknown column"),
+            ExtendError::NotDec { cut } => (cut, "has a number out of the limits"),
+            ExtendError::TooMany => return f.write_str("too many rows or entries"),
+            ExtendError::Memory => return f.write_str("out of memory"),
+        };
+        write!(f, "cut {cut} {fault}")
+    }
+}
+
+impl Error for ExtendError {}
 
 // ---- refusals
 
@@ -117,17 +128,6 @@ fn fits(model: &Model, cuts: &[Ineq]) -> bool
 
 // ---- copies
 
-fn copied_row(alloc: Global, row: &Row) -> Result<Row, Memory>
-    ensures { IfOk result (λ copy. copy ≡ row.now) }
-{
-    Ok(Row {
-        name: copied_name(alloc, row.name.as_slice())?,
-        kind: row.kind,
-        rhs: row.rhs,
-        range: row.range,
-    })
-}
-
 fn add_entries(entries: &mut Entries, more: &[(u32, Dec)]) -> Result<(), Memory>
     ensures { OnOk result (entries.new ≡ entries.old ++ more.now) }
 {
@@ -177,7 +177,13 @@ fn decimal(n: i128) -> Dec
 fn add_row_copy(alloc: Global, copies: &mut Seq<Row>, row: &Row) -> Result<(), Memory>
     ensures { OnOk result (copies.new ≡ copies.old ++ row.now ∷ []) }
 {
-    copies.push(copied_row(alloc, row)?)
+    let name = copied_name(alloc, row.name.as_slice())?;
+    copies.push(Row {
+        name,
+        kind: row.kind,
+        rhs: row.rhs,
+        range: row.range,
+    })
 }
 
 fn add_row_copies(alloc: Global, copies: &mut Seq<Row>, rows: &[Row]) -> Result<(), Memory>
@@ -189,23 +195,17 @@ fn add_row_copies(alloc: Global, copies: &mut Seq<Row>, rows: &[Row]) -> Result<
     Ok(())
 }
 
-fn row_of_cut(alloc: Global, name: &[u8], cut: &Ineq) -> Result<Row, Memory>
-    requires { IsTrue (is_decimal cut.now) }
-    ensures { IfOk result (λ row. row ≡ cut_row (name.now, cut.now)) }
-{
-    Ok(Row {
-        name: copied_name(alloc, name)?,
-        kind: RowKind::G,
-        rhs: decimal(cut.rhs),
-        range: None,
-    })
-}
-
 fn add_cut_row(alloc: Global, rows: &mut Seq<Row>, name: &[u8], cut: &Ineq) -> Result<(), Memory>
     requires { IsTrue (is_decimal cut.now) }
     ensures { OnOk result (rows.new ≡ rows.old ++ cut_row (name.now, cut.now) ∷ []) }
 {
-    rows.push(row_of_cut(alloc, name, cut)?)
+    let name = copied_name(alloc, name)?;
+    rows.push(Row {
+        name,
+        kind: RowKind::G,
+        rhs: decimal(cut.rhs),
+        range: None,
+    })
 }
 
 fn add_cut_rows(

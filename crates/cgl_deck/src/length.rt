@@ -3,7 +3,7 @@ ghost use Rattle.cgl_num.specs.Decimal.{decimal_text};
 ghost use Rattle.cgl_deck.specs.DeckText.{both_text, bound_line, bound_text, column_text, columns_text, data_line, deck_text, lower_text, marker_text, name_text, range_text, rhs_text, row_text, section_text, sense_text};
 ghost use Rattle.cgl_deck.specs.DeckLength.{most};
 
-use crate::write::{is_negative, is_same, is_zero, name_of_row};
+use crate::write::{is_same, is_upper_alone, is_zero, name_of_row};
 use cgl_model::{Column, Model, Row};
 use cgl_num::Dec;
 
@@ -161,7 +161,7 @@ fn both_len(name: &[u8], lo: Dec, up: Dec) -> u64
     ensures { result ≡ most (length (both_text name.now lo up)) }
 {
     let upper = value_len(b"UP", name, up);
-    if is_zero(lo) && !is_negative(up) {
+    if is_upper_alone(lo, up) {
         return upper;
     }
     value_len(b"LO", name, lo).saturating_add(upper)

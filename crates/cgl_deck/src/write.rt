@@ -1,4 +1,4 @@
-ghost use Rattle.std.specs.Prelude.{◌≡◌, List, ℕ, [], ◌∷◌, ◌++◌, ◌+◌, codes, false, flat_map, length, map, pos, int_lt, IfOk, OnOk};
+ghost use Rattle.std.specs.Prelude.{◌≡◌, List, ℕ, [], ◌∷◌, ◌++◌, ◌+◌, ◌&&◌, codes, false, flat_map, length, map, not, pos, int_lt, IfOk, OnOk};
 ghost use Rattle.cgl_num.specs.Decimal.{decimal_text};
 ghost use Rattle.cgl_deck.specs.DeckText.{both_text, bound_line, bound_text, column_text, columns_text, data_line, deck_text, is_same_decimal, is_zero_decimal, kind_word, lower_text, marker_text, name_text, range_text, rhs_text, row_name, row_text, section_text, sense_text};
 
@@ -14,10 +14,11 @@ pub(crate) fn is_zero(number: Dec) -> bool
     number.m() == 0
 }
 
-pub(crate) fn is_negative(number: Dec) -> bool
-    ensures { result ≡ int_lt number.m (pos 0) }
+/// Whether of two finite bounds the upper one alone is told.
+pub(crate) fn is_upper_alone(lo: Dec, up: Dec) -> bool
+    ensures { result ≡ (is_zero_decimal lo && not (int_lt up.m (pos 0))) }
 {
-    number.m() < 0
+    lo.m() == 0 && up.m() >= 0
 }
 
 pub(crate) fn is_same(a: Dec, b: Dec) -> bool
@@ -133,7 +134,8 @@ pub(crate) fn name_of_row(rows: &[Row], row: u32) -> &[u8]
 fn add_column(text: &mut Vec<u8>, rows: &[Row], column: &Column) -> Result<(), Memory>
     ensures { OnOk result (text.new.items ≡ text.old.items ++ column_text rows.now column.now) }
 {
-    for entry in column.entries.as_slice() {
+    let entries = column.entries.as_slice();
+    for entry in entries {
         add_number_line(
             text,
             column.name.as_slice(),
@@ -249,9 +251,10 @@ fn add_value(text: &mut Vec<u8>, kind: &[u8], name: &[u8], value: Dec) -> Result
 fn add_both(text: &mut Vec<u8>, name: &[u8], lo: Dec, up: Dec) -> Result<(), Memory>
     ensures { OnOk result (text.new.items ≡ text.old.items ++ both_text name.now lo up) }
 {
-    if !is_zero(lo) || is_negative(up) {
-        add_value(text, b"LO", name, lo)?;
+    if is_upper_alone(lo, up) {
+        return add_value(text, b"UP", name, up);
     }
+    add_value(text, b"LO", name, lo)?;
     add_value(text, b"UP", name, up)
 }
 

@@ -1,7 +1,7 @@
 use Rattle.std.proofs.Common.{map, ap, arith}
-use Rattle.cgl_deck.specs.Extended.{cut_row}
+use Rattle.cgl_deck.specs.Extended.{cut_row, is_decimal}
 use Rattle.cgl_deck.proofs.ListLaws.{nothing_left}
-use Rattle.cgl_deck.proofs.CutListLaws.{zip_ended, zip_turn}
+use Rattle.cgl_deck.proofs.CutListLaws.{cut_passes, zip_ended, zip_turn}
 use Rattle.cgl_deck.proofs.extend.add_cut_rows.Goals as goal
 
 pub returns : goal.returns
@@ -11,3 +11,6 @@ pub loop-k-preserved : goal.loop-k-preserved
 loop-k-preserved c =
     zip_turn cut_row c.loop-k.rows c.add_cut_row.new.rows _ c.args.names.now c.args.cuts.now c.loop-k.k c.index-names-k.result c.as_slice.result.now c.index-cuts-k.result
     (omega arith) (omega arith) c.index-names-k.is c.index-cuts-k.is c.as_slice.ensures c.in_ok-add_cut_row.ensures c.loop-k.invariant
+
+pub add_cut_row-requires : goal.add_cut_row-requires
+add_cut_row-requires c = cut_passes is_decimal c.args.cuts.now c.loop-k.k c.index-cuts-k.result (omega arith) c.index-cuts-k.is c.requires

@@ -1,7 +1,7 @@
 use Rattle.std.proofs.Common.{◌+◌, length, ap, refl, subst, sym, arith, rules}
 use Rattle.std.proofs.lemmas.List.{drop_all}
 use Rattle.cgl_deck.specs.Extended.{AreRising, cut_entries, is_decimal, is_known}
-use Rattle.cgl_deck.proofs.CutListLaws.{cut_passes, lists_turn, rising_turn, terms_known}
+use Rattle.cgl_deck.proofs.CutListLaws.{cut_passes, lists_start, lists_turn, rising_turn, terms_known}
 use Rattle.cgl_deck.proofs.ListLaws.{nothing_left}
 use Rattle.cgl_deck.proofs.extend.lists_of_cuts.Goals as goal
 
@@ -27,3 +27,9 @@ returns-clause-entries c j lt =
 
 pub returns-clause-rising : goal.returns-clause-rising
 returns-clause-rising c = c.loop-k.invariant.rising (subst AreRising (sym (drop_all c.loop-k.k c.args.cuts.now c.loop-k-test.false)) tt)
+
+pub loop-k-init : goal.loop-k-init
+loop-k-init c = record {
+  lists = λ j lt. lists_start c.in_ok-lists.lists.items c.args.first j c.args.cuts.now (c.in_ok-lists.ensures.empty j);
+  rising = λ h. h;
+}

@@ -1,11 +1,18 @@
-use Rattle.std.proofs.Common.{◌≡◌, true, Some, is_some, ap, ◌∙◌, sym, rules}
+use Rattle.std.proofs.Common.{◌≡◌, ℕ, Err, IsErrOf, true, Some, is_some, ap, ◌∙◌, sym, rules}
+use Rattle.cgl_deck.specs.declared.extend.ExtendError.{ExtendError}
 use Rattle.cgl_deck.specs.Extended.{is_known, is_decimal, is_within_sizes}
 use Rattle.cgl_deck.proofs.ExtensionLaws.{extension_stands}
 use Rattle.cgl_deck.proofs.ListLaws.{none_fails}
 use Rattle.cgl_deck.proofs.extend.with_cuts.Goals as goal
 
+not_decimal_is_no_unknown : {T P : Type 0} {j k : ℕ} → IsErrOf {T = T} (Err (ExtendError.NotDec j)) (ExtendError.Unknown k) → P
+not_decimal_is_no_unknown h = absurd (cc)
+
 pub returns-in-Some-first_not_decimal-clause-known : goal.returns-in-Some-first_not_decimal-clause-known
 returns-in-Some-first_not_decimal-clause-known c k h = none_fails (is_known c.args.model.now) c.args.cuts.now c.first_unknown.result c.first_unknown.ensures c.in_default.is
+
+pub returns-in-Some-first_not_decimal-clause-unknown : goal.returns-in-Some-first_not_decimal-clause-unknown
+returns-in-Some-first_not_decimal-clause-unknown c k h = not_decimal_is_no_unknown h
 
 pub returns-then-not-fits-clause-too_many : goal.returns-then-not-fits-clause-too_many
 returns-then-not-fits-clause-too_many c h = record {

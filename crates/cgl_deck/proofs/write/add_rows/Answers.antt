@@ -1,8 +1,11 @@
 use Rattle.std.proofs.Common.{arith}
 use Rattle.cgl_deck.specs.DeckText.{row_text}
-use Rattle.cgl_deck.proofs.TurnLaws.{item_turn}
+use Rattle.cgl_deck.proofs.TurnLaws.{item_turn, items_ended}
 use Rattle.cgl_deck.proofs.write.add_rows.Goals as goal
 
 pub loop-row-preserved : goal.loop-row-preserved
 loop-row-preserved c =
     item_turn row_text c.args.rows.now c.loop-row.row-index c.row-item.result _ _ _ (omega arith) c.row-item.is c.in_ok-add_row.ensures c.loop-row.invariant
+
+pub returns : goal.returns
+returns c = items_ended row_text c.args.rows.now c.loop-row.row-index c.loop-row.text.items _ (omega arith) c.loop-row.invariant
