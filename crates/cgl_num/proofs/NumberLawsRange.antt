@@ -1,9 +1,10 @@
 -- A number's limits, by its digits and a scale of which only the sign counts where it is far.
-use Rattle.std.proofs.Common.{◌≡◌, refl, sym, ap, subst, ◌∙◌, arith, ℕ, zero, suc, ◌+◌, ◌-◌, ◌*◌, ◌^◌, ◌<◌, ◌≤◌, Bool, true, false, cond, ◌&&◌, [], ◌∷◌, length, nat_lt, mul-le-mul_right, ⊎_elim, length-append}
+use Rattle.std.proofs.Common.{◌≡◌, refl, sym, ap, subst, ◌∙◌, arith, ℕ, zero, suc, ◌+◌, ◌-◌, ◌*◌, ◌^◌, ◌<◌, ◌≤◌, Bool, true, false, cond, ◌&&◌, [], ◌∷◌, length, nat_lt, mul-le-mul_right, ⊎_elim, length-append, SFits, to_z, of_z}
 use Rattle.std.specs.Prelude.{ℤ, pos, negsuc, int_lt, int_le, ◌+ℤ◌, ◌-ℤ◌, ◌≤ℤ◌, ◌<ℤ◌}
 use Rattle.std.proofs.Math.IntN.{neg_ℤ}
 use Rattle.std.specs.List.{list_all, prefix_len, before_first}
-use Rattle.std.proofs.lemmas.Int.{ints}
+use Rattle.std.specs.Int.{w128}
+use Rattle.std.proofs.lemmas.Int.{ints, to_z-of_z}
 use Rattle.std.proofs.lemmas.Bool.{lt-ltb, cases_lt}
 use Rattle.std.proofs.lemmas.List.Sums.{suffix_len-le-length}
 use Rattle.cgl_num.specs.NumberText.{Word, natural, is_digit, is_zero, is_negative, is_point, mantissa, digits, decimals, exponent, unsigned, size, scale, reaches, near, IsForm}
@@ -23,6 +24,11 @@ from_less a b h = grind (arith, ints)
 
 pub from_not_less : (a b : ℤ) → int_lt a b ≡ false → b ≤ℤ a
 from_not_less a b h = grind (arith, ints)
+
+-- a scale and a count, added in 128 bits
+pub sum_read : (z scale : ℤ) (count : ℕ) → SFits w128 z → SFits w128 scale → z ≡ to_z w128 (of_z w128 scale) +ℤ pos count
+    → to_z w128 (of_z w128 z) ≡ scale +ℤ pos count
+sum_read z scale count fits scale_fits e = to_z-of_z w128 z fits ∙ e ∙ ap (λ x. x +ℤ pos count) (to_z-of_z w128 scale scale_fits)
 
 abbrev pub at_scale : Bool → ℕ → ℕ → ℤ
 at_scale negative e less = cond negative (neg_ℤ (pos e)) (pos e) -ℤ pos less

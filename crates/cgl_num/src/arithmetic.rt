@@ -136,24 +136,32 @@ fn quotient(a: i128, g: i128) -> i128
     a / g
 }
 
+/// What no numerator and no denominator reaches in magnitude.
+const END: u128 = 1 << 127;
+
+/// The number, where its magnitude is below 2^127.
+fn narrow(number: i128) -> Option<i128>
+    ensures { MatchOption result (IsWide number) (λ z. (z ≡ number) × (unsigned_abs z < 2 ^ 127)) }
+{
+    if number.unsigned_abs() < END {
+        Some(number)
+    } else {
+        None
+    }
+}
+
 /// The product, where its magnitude is below 2^127.
 fn product(a: i128, b: i128) -> Option<i128>
     ensures { MatchOption result (IsWide (a *ℤ b)) (λ z. (z ≡ a *ℤ b) × (unsigned_abs z < 2 ^ 127)) }
 {
-    match a.checked_mul(b) {
-        Some(i128::MIN) => None,
-        product => product,
-    }
+    narrow(a.checked_mul(b)?)
 }
 
 /// The sum, where its magnitude is below 2^127.
 fn total(a: i128, b: i128) -> Option<i128>
     ensures { MatchOption result (IsWide (a +ℤ b)) (λ z. (z ≡ a +ℤ b) × (unsigned_abs z < 2 ^ 127)) }
 {
-    match a.checked_add(b) {
-        Some(i128::MIN) => None,
-        total => total,
-    }
+    narrow(a.checked_add(b)?)
 }
 
 /// `num/(rest * den)` in lowest terms, where it fits; `rest` shares nothing with `num`.

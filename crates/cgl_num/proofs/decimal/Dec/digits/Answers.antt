@@ -1,32 +1,40 @@
-use Rattle.std.proofs.Common.{rules, sym, subst, ◌≤◌, ◌≡◌, ◌^◌, true, false, take}
+use Rattle.std.proofs.Common.{rules, sym, ap, ◌∙◌, subst, ◌≤◌, ◌≡◌, ◌^◌, true, false, to_z, of_z}
 use Rattle.std.specs.Prelude.{unsigned_abs, pos}
+use Rattle.std.specs.Int.{w128, w16}
 use Rattle.std.specs.Int.Signed.{lt_z}
+use Rattle.std.proofs.lemmas.Int.{to_z-of_z}
 use Rattle.cgl_num.specs.Decimal.{IsDecimal, minus}
 use Rattle.cgl_num.proofs.DecimalLaws.{power_fits, whole_length, whole_digits, point_digits}
 use Rattle.cgl_num.proofs.decimal.Dec.digits.Goals as goal
 
 pub put_number-requires : goal.put_number-requires
 put_number-requires c =
-    let m_is : c.unsigned_abs-m.result ≡ unsigned_abs c.args.self.m = search rules in
+    let read_e : to_z w16 (of_z w16 c.self.inside.e) ≡ c.args.self.e = to_z-of_z w16 _ (record { sfits = c.self.ranges.1.0.1 }) ∙ ap (λ d. d.e) c.self.view_is in
+    let read : to_z w128 (of_z w128 c.self.inside.m) ≡ c.args.self.m = to_z-of_z w128 _ (record { sfits = c.self.ranges.0.1 }) ∙ ap (λ d. d.m) c.self.view_is in
+    let m_is = c.unsigned_abs-m.ensures.value ∙ ap unsigned_abs read in
     let p_is : c.pow.result ≡ 10 ^ unsigned_abs c.args.self.e = search rules in
-    let h : lt_z c.args.self.e (pos 0) ≡ false = search rules in
-    let is : IsDecimal c.args.self = search rules in
+    let h = ap (λ e. lt_z e (pos 0)) (sym read_e) ∙ c.if-self-lt0.false in
+    let is = subst IsDecimal c.self.view_is c.self.invariant in
     whole_length c.args.self _ _ _ is h m_is p_is c.put_sign-at.ensures.within
 
 pub returns-then-self-lt0-clause-text : goal.returns-then-self-lt0-clause-text
 returns-then-self-lt0-clause-text c =
-    let m_is : c.unsigned_abs-m.result ≡ unsigned_abs c.args.self.m = search rules in
-    let k_is : c.unsigned_abs.result ≡ unsigned_abs c.args.self.e = search rules in
-    let h : lt_z c.args.self.e (pos 0) ≡ true = search rules in
-    let sign : take c.put_sign-at.result c.put_sign-at.new.out ≡ minus (lt_z c.args.self.m (pos 0)) = search rules in
+    let read_e : to_z w16 (of_z w16 c.self.inside.e) ≡ c.args.self.e = to_z-of_z w16 _ (record { sfits = c.self.ranges.1.0.1 }) ∙ ap (λ d. d.e) c.self.view_is in
+    let read : to_z w128 (of_z w128 c.self.inside.m) ≡ c.args.self.m = to_z-of_z w128 _ (record { sfits = c.self.ranges.0.1 }) ∙ ap (λ d. d.m) c.self.view_is in
+    let m_is = c.unsigned_abs-m.ensures.value ∙ ap unsigned_abs read in
+    let k_is = c.unsigned_abs.ensures.value ∙ ap unsigned_abs read_e in
+    let h = ap (λ e. lt_z e (pos 0)) (sym read_e) ∙ c.if-self-lt0.true in
+    let sign = c.put_sign-at.ensures.text ∙ ap (λ m. minus (lt_z m (pos 0))) read in
     point_digits c.args.self _ _ _ _ h m_is k_is sign c.put_decimals.ensures.text
 
 pub returns-else-self-lt0-clause-text : goal.returns-else-self-lt0-clause-text
 returns-else-self-lt0-clause-text c =
-    let m_is : c.unsigned_abs-m.result ≡ unsigned_abs c.args.self.m = search rules in
+    let read_e : to_z w16 (of_z w16 c.self.inside.e) ≡ c.args.self.e = to_z-of_z w16 _ (record { sfits = c.self.ranges.1.0.1 }) ∙ ap (λ d. d.e) c.self.view_is in
+    let read : to_z w128 (of_z w128 c.self.inside.m) ≡ c.args.self.m = to_z-of_z w128 _ (record { sfits = c.self.ranges.0.1 }) ∙ ap (λ d. d.m) c.self.view_is in
+    let m_is = c.unsigned_abs-m.ensures.value ∙ ap unsigned_abs read in
     let p_is : c.pow.result ≡ 10 ^ unsigned_abs c.args.self.e = search rules in
-    let h : lt_z c.args.self.e (pos 0) ≡ false = search rules in
-    let sign : take c.put_sign-at.result c.put_sign-at.new.out ≡ minus (lt_z c.args.self.m (pos 0)) = search rules in
+    let h = ap (λ e. lt_z e (pos 0)) (sym read_e) ∙ c.if-self-lt0.false in
+    let sign = c.put_sign-at.ensures.text ∙ ap (λ m. minus (lt_z m (pos 0))) read in
     whole_digits c.args.self _ _ _ _ h m_is p_is sign c.put_number.ensures.text
 
 pub unsigned_abs-m-requires : goal.unsigned_abs-m-requires
@@ -55,8 +63,9 @@ overflow_cast-self-inside c = search rules
 
 pub pow-requires : goal.pow-requires
 pow-requires c =
-    let h : lt_z c.args.self.e (pos 0) ≡ false = search rules in
-    let is : IsDecimal c.args.self = search rules in
+    let read_e : to_z w16 (of_z w16 c.self.inside.e) ≡ c.args.self.e = to_z-of_z w16 _ (record { sfits = c.self.ranges.1.0.1 }) ∙ ap (λ d. d.e) c.self.view_is in
+    let h = ap (λ e. lt_z e (pos 0)) (sym read_e) ∙ c.if-self-lt0.false in
+    let is = subst IsDecimal c.self.view_is c.self.invariant in
     let small = power_fits c.args.self is h in
     search (rules, small)
 
@@ -68,8 +77,9 @@ returns-then-self-lt0-clause-within c = search rules
 
 pub returns-else-self-lt0-clause-within : goal.returns-else-self-lt0-clause-within
 returns-else-self-lt0-clause-within c = subst (λ n. n ≤ 48) (sym c.put_number.ensures.end)
-    (let m_is : c.unsigned_abs-m.result ≡ unsigned_abs c.args.self.m = search rules in
+    (let read_e : to_z w16 (of_z w16 c.self.inside.e) ≡ c.args.self.e = to_z-of_z w16 _ (record { sfits = c.self.ranges.1.0.1 }) ∙ ap (λ d. d.e) c.self.view_is in
+    let m_is : c.unsigned_abs-m.result ≡ unsigned_abs c.args.self.m = search rules in
     let p_is : c.pow.result ≡ 10 ^ unsigned_abs c.args.self.e = search rules in
-    let h : lt_z c.args.self.e (pos 0) ≡ false = search rules in
-    let is : IsDecimal c.args.self = search rules in
+    let h = ap (λ e. lt_z e (pos 0)) (sym read_e) ∙ c.if-self-lt0.false in
+    let is = subst IsDecimal c.self.view_is c.self.invariant in
     whole_length c.args.self _ _ _ is h m_is p_is c.put_sign-at.ensures.within)

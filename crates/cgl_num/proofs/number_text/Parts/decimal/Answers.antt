@@ -1,9 +1,9 @@
 use Rattle.std.proofs.Common.{rules, arith, ◌≡◌, ◌≤◌, ◌<◌, ◌-◌, ◌+◌, ◌^◌, refl, sym, ap, ◌∙◌, to_z, of_z, Some}
 use Rattle.std.specs.Prelude.{pos, negsuc, int_lt, ◌+ℤ◌, ◌≤ℤ◌}
 use Rattle.std.specs.Int.{w128, w16}
-use Rattle.std.proofs.lemmas.Int.{ints}
+use Rattle.std.proofs.lemmas.Int.{ints, to_z-of_z}
 use Rattle.cgl_num.proofs.DecimalLaws.{zero-is, tens_mono, two}
-use Rattle.cgl_num.proofs.NumberLawsRange.{from_less, from_not_less}
+use Rattle.cgl_num.proofs.NumberLawsRange.{from_less, from_not_less, sum_read}
 use Rattle.cgl_num.proofs.NumberLawsValue.{number_zero, number_long, number_large, number_small, number_some, times_under}
 use Rattle.cgl_num.proofs.number_text.Parts.decimal.Goals as goal
 
@@ -16,12 +16,12 @@ returns-then-digits-gt-KEPT c text is =
 
 pub returns-then-above-gt-SIZE_END : goal.returns-then-above-gt-SIZE_END
 returns-then-above-gt-SIZE_END c text is =
-    let sum : to_z w128 (of_z w128 c.sum-above.result) ≡ c.args.self.scale +ℤ pos c.args.self.digits.size = search rules in
+    let sum : to_z w128 (of_z w128 c.sum-above.result) ≡ c.args.self.scale +ℤ pos c.args.self.digits.size = sum_read c.sum-above.result c.args.self.scale c.args.self.digits.size (search rules) (search rules) c.sum-above.ensures in
     sym (number_large text _ _ _ _ _ is (omega arith) (from_less _ _ (ap (λ x. int_lt (pos 36) x) (sym sum) ∙ c.if-above-gt-SIZE_END.true)))
 
 pub returns-then-e-lt-LEAST_SCALE : goal.returns-then-e-lt-LEAST_SCALE
 returns-then-e-lt-LEAST_SCALE c text is =
-    let sum : to_z w128 (of_z w128 c.sum-e.result) ≡ c.args.self.scale +ℤ pos c.args.self.digits.zeros = search rules in
+    let sum : to_z w128 (of_z w128 c.sum-e.result) ≡ c.args.self.scale +ℤ pos c.args.self.digits.zeros = sum_read c.sum-e.result c.args.self.scale c.args.self.digits.zeros (search rules) (search rules) c.sum-e.ensures in
     sym (number_small text _ _ _ _ _ is (omega arith) (from_less _ _ (ap (λ x. int_lt x (negsuc 29)) (sym sum) ∙ c.if-e-lt-LEAST_SCALE.true)))
 
 pub with_sign-requires-clause-digits : goal.with_sign-requires-clause-digits
@@ -31,9 +31,10 @@ with_sign-requires-clause-digits c =
 
 pub with_sign-requires-clause-size : goal.with_sign-requires-clause-size
 with_sign-requires-clause-size c k at =
-    let sum : to_z w128 (of_z w128 c.sum-above.result) ≡ c.args.self.scale +ℤ pos c.args.self.digits.size = search rules in
+    let sum : to_z w128 (of_z w128 c.sum-above.result) ≡ c.args.self.scale +ℤ pos c.args.self.digits.size = sum_read c.sum-above.result c.args.self.scale c.args.self.digits.size (search rules) (search rules) c.sum-above.ensures in
     let size : (c.args.self.scale +ℤ pos c.args.self.digits.size) ≤ℤ pos 36 = from_not_less _ _ (ap (λ x. int_lt (pos 36) x) (sym sum) ∙ c.if-above-gt-SIZE_END.false) in
-    let e : to_z w16 (of_z w16 c.narrow.result) ≡ c.args.self.scale +ℤ pos c.args.self.digits.zeros = search rules in
+    let sum_e : to_z w128 (of_z w128 c.sum-e.result) ≡ c.args.self.scale +ℤ pos c.args.self.digits.zeros = sum_read c.sum-e.result c.args.self.scale c.args.self.digits.zeros (search rules) (search rules) c.sum-e.ensures in
+    let e : to_z w16 (of_z w16 c.narrow.result) ≡ c.args.self.scale +ℤ pos c.args.self.digits.zeros = to_z-of_z w16 c.narrow.result (search rules) ∙ c.narrow.ensures ∙ sum_e in
     let e_at : c.args.self.scale +ℤ pos c.args.self.digits.zeros ≡ pos k = sym e ∙ at in
     let less = c.args.self.digits.some (omega arith) in
     let small : c.args.self.digits.size - c.args.self.digits.zeros + k ≤ 36 = omega (arith, ints, size, e_at, less) in
@@ -41,11 +42,11 @@ with_sign-requires-clause-size c k at =
 
 pub returns : goal.returns
 returns c text is =
-    let above : to_z w128 (of_z w128 c.sum-above.result) ≡ c.args.self.scale +ℤ pos c.args.self.digits.size = search rules in
+    let above : to_z w128 (of_z w128 c.sum-above.result) ≡ c.args.self.scale +ℤ pos c.args.self.digits.size = sum_read c.sum-above.result c.args.self.scale c.args.self.digits.size (search rules) (search rules) c.sum-above.ensures in
     let size : (c.args.self.scale +ℤ pos c.args.self.digits.size) ≤ℤ pos 36 = from_not_less _ _ (ap (λ x. int_lt (pos 36) x) (sym above) ∙ c.if-above-gt-SIZE_END.false) in
-    let sum : to_z w128 (of_z w128 c.sum-e.result) ≡ c.args.self.scale +ℤ pos c.args.self.digits.zeros = search rules in
+    let sum : to_z w128 (of_z w128 c.sum-e.result) ≡ c.args.self.scale +ℤ pos c.args.self.digits.zeros = sum_read c.sum-e.result c.args.self.scale c.args.self.digits.zeros (search rules) (search rules) c.sum-e.ensures in
     let fine : negsuc 29 ≤ℤ (c.args.self.scale +ℤ pos c.args.self.digits.zeros) = from_not_less _ _ (ap (λ x. int_lt x (negsuc 29)) (sym sum) ∙ c.if-e-lt-LEAST_SCALE.false) in
-    let e : to_z w16 (of_z w16 c.narrow.result) ≡ c.args.self.scale +ℤ pos c.args.self.digits.zeros = search rules in
+    let e : to_z w16 (of_z w16 c.narrow.result) ≡ c.args.self.scale +ℤ pos c.args.self.digits.zeros = to_z-of_z w16 c.narrow.result (search rules) ∙ c.narrow.ensures ∙ sum in
     let below = c.args.self.digits.below (omega arith) in
     let digits : c.args.self.digits.value < 10 ^ 24 =
     omega (arith, below, tens_mono (c.args.self.digits.size - c.args.self.digits.zeros) 24 (omega arith)) in
