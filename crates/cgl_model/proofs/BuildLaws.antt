@@ -1,9 +1,11 @@
 -- The steps by which forms are built.
-use Rattle.std.proofs.Common.{◌≡◌, ℕ, zero, suc, ℤ, pos, negsuc, ◌+◌, ◌*◌, ◌^◌, ◌≤◌, ◌<◌, max, ap, refl, sym, ◌∙◌, subst, arith, lit<, List, [], ◌∷◌, ◌++◌, ◌-◌, map, length, take, drop, get_or, true, false}
-use Rattle.std.specs.Prelude.{◌*ℤ◌, unsigned_abs, FitsSigned, Option, Some, None, option_to_list}
+use Rattle.std.proofs.Common.{◌≡◌, ℕ, zero, suc, ℤ, pos, negsuc, ◌+◌, ◌*◌, ◌^◌, ◌≤◌, ◌<◌, max, ap, refl, sym, ◌∙◌, subst, arith, lit<, List, [], ◌∷◌, ◌++◌, ◌-◌, map, length, take, drop, get_or, true, false, to_z, of_z}
+use Rattle.std.specs.Prelude.{◌*ℤ◌, ◌-ℤ◌, unsigned_abs, FitsSigned, Option, Some, None, option_to_list}
 use Rattle.std.specs.Int.{w128}
+use Rattle.std.specs.Int.Signed.{lt_z}
+use Rattle.std.proofs.Math.IntN.{neg_ℤ, negsuc-*ℤ-pos}
 use Rattle.std.proofs.Math.Nat.{pow-le-pow_right}
-use Rattle.std.proofs.lemmas.Int.{fits_signed_from_abs, unsigned_abs-mul}
+use Rattle.std.proofs.lemmas.Int.{ints, fits_signed_from_abs, unsigned_abs-mul}
 use Rattle.std.proofs.lemmas.List.{map_more, take_all}
 use Rattle.std.proofs.lemmas.Bool.{le-leb, leb-false, lt-leb, or_from, or_parts, or_left, or_right}
 use Rattle.std.specs.List.{filter, list_any}
@@ -56,6 +58,24 @@ too_large (negsuc n) p h e = omega (arith, e)
 -- the magnitude of the scaled number
 pub scaled_size : (k : ℕ) (d : Decimal) (p : ℕ) → scaled k d ≡ d.m *ℤ pos (10 ^ p) → unsigned_abs (scaled k d) ≡ unsigned_abs d.m * 10 ^ p
 scaled_size k d p e = ap unsigned_abs e ∙ unsigned_abs-mul d.m (pos (10 ^ p))
+
+-- a scaled number by its magnitude and its sign
+pub below_zero : (m z : ℤ) (p t : ℕ) → z ≡ m *ℤ pos (10 ^ p) → t ≡ unsigned_abs m * 10 ^ p → lt_z m (pos 0) ≡ true → neg_ℤ (pos t) ≡ z
+below_zero (pos n) z p t e f h = absurd (omega (arith, ints, h))
+below_zero (negsuc n) z p t e f h = ap (λ k. neg_ℤ (pos k)) f ∙ sym (e ∙ negsuc-*ℤ-pos n (10 ^ p))
+
+pub from_zero : (m z : ℤ) (p t : ℕ) → z ≡ m *ℤ pos (10 ^ p) → t ≡ unsigned_abs m * 10 ^ p → lt_z m (pos 0) ≡ false → pos t ≡ z
+from_zero (pos n) z p t e f h = ap pos f ∙ sym e
+from_zero (negsuc n) z p t e f h = absurd (omega (arith, ints, h))
+
+pub minus_magnitude : (t : ℕ) → t < 2 ^ 126 → to_z w128 (of_z w128 (pos 0 -ℤ to_z w128 t)) ≡ neg_ℤ (pos t)
+minus_magnitude t h = omega (arith, ints, h)
+
+pub minus_narrow : (z : ℤ) (t : ℕ) → z ≡ neg_ℤ (pos t) → t < 2 ^ 100 → unsigned_abs z < 2 ^ 100
+minus_narrow z t e h = omega (arith, ints, e, h)
+
+pub plus_narrow : (z : ℤ) (t : ℕ) → z ≡ pos t → t < 2 ^ 100 → unsigned_abs z < 2 ^ 100
+plus_narrow z t e h = omega (arith, ints, e, h)
 
 -- ---- scaled coefficients
 
