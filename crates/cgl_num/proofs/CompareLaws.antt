@@ -1,9 +1,11 @@
 -- The order of fractions with one sign, by the magnitudes.
-use Rattle.std.proofs.Common.{◌≡◌, ℕ, ◌*◌, ap, ap₂, ◌∙◌, sym, rules, arith, true, false}
+use Rattle.std.proofs.Common.{◌≡◌, ℕ, ◌*◌, ◌<◌, ap, ap₂, ◌∙◌, sym, rules, arith, true, false}
 use Rattle.std.specs.Prelude.{ℤ, pos, ◌*ℤ◌, ◌<ℤ◌, ◌≤ℤ◌, unsigned_abs}
 use Rattle.std.specs.Int.Signed.{lt_z}
 use Rattle.std.specs.Ordering.{nat_cmp, int_cmp}
+use Rattle.std.specs.declared.cmp.Ordering.TheVariants.{Less, Greater}
 use Rattle.std.proofs.lemmas.Grind.{common_steps}
+use Rattle.std.proofs.lemmas.Int.{ints}
 use Rattle.cgl_num.specs.Fraction.{Fraction, IsLowest}
 use Rattle.cgl_num.specs.FractionArithmetic.{fraction_cmp}
 use Rattle.cgl_num.proofs.NumberLawsRange.{from_less, from_not_less}
@@ -41,3 +43,23 @@ pub order_not_below : (f h : Fraction) (x u y v : ℤ) (a b c d : ℕ) → IsPai
 order_not_below f h x u y v a b c d is left right =
     ap₂ nat_cmp (product a d x v f.num h.den is.num_size is.num is.other_den_size is.other_den) (product c b y u h.num f.den is.other_num_size is.other_num is.den_size is.den)
     ∙ none_below f.num f.den h.num h.den (from_not_less _ _ (ap (λ z. lt_z z (pos 0)) (sym is.num) ∙ left)) (from_not_less _ _ (ap (λ z. lt_z z (pos 0)) (sym is.other_num) ∙ right)) is.left.positive is.right.positive
+
+less_below : (a b c d : ℤ) → a <ℤ pos 0 → pos 0 ≤ℤ c → pos 0 <ℤ b → pos 0 <ℤ d → Less ≡ int_cmp (a *ℤ d) (c *ℤ b)
+less_below a b c d h k l m = grind (arith, common_steps)
+
+greater_below : (a b c d : ℤ) → pos 0 ≤ℤ a → c <ℤ pos 0 → pos 0 <ℤ b → pos 0 <ℤ d → Greater ≡ int_cmp (a *ℤ d) (c *ℤ b)
+greater_below a b c d h k l m = grind (arith, common_steps)
+
+-- only the left one is below 0
+pub order_less : (f h : Fraction) (x y : ℤ) → IsLowest f → IsLowest h → x ≡ f.num → y ≡ h.num → lt_z x (pos 0) ≡ true → lt_z y (pos 0) ≡ false → Less ≡ fraction_cmp f h
+order_less f h x y f_is h_is x_is y_is left right =
+    less_below f.num f.den h.num h.den (from_less _ _ (ap (λ z. lt_z z (pos 0)) (sym x_is) ∙ left)) (from_not_less _ _ (ap (λ z. lt_z z (pos 0)) (sym y_is) ∙ right)) f_is.positive h_is.positive
+
+-- only the right one is below 0
+pub order_greater : (f h : Fraction) (x y : ℤ) → IsLowest f → IsLowest h → x ≡ f.num → y ≡ h.num → lt_z x (pos 0) ≡ false → lt_z y (pos 0) ≡ true → Greater ≡ fraction_cmp f h
+order_greater f h x y f_is h_is x_is y_is left right =
+    greater_below f.num f.den h.num h.den (from_not_less _ _ (ap (λ z. lt_z z (pos 0)) (sym x_is) ∙ left)) (from_less _ _ (ap (λ z. lt_z z (pos 0)) (sym y_is) ∙ right)) f_is.positive h_is.positive
+
+-- the magnitude of a denominator
+pub den_above : (f : Fraction) (u : ℤ) (b : ℕ) → IsLowest f → u ≡ f.den → b ≡ unsigned_abs u → 0 < b
+den_above f u b is den size = let above = is.positive in omega (arith, ints, above, den, size)

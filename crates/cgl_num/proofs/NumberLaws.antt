@@ -1,5 +1,5 @@
 -- Digits one by one.
-use Rattle.std.proofs.Common.{◌≡◌, ◌≢◌, refl, sym, ap, subst, ◌∙◌, arith, ℕ, suc, ◌+◌, ◌-◌, ◌*◌, ◌%◌, ◌^◌, ◌<◌, ◌≤◌, Bool, true, false, cond, not, ◌&&◌, ◌||◌, drop, take, get_or, append_assoc, Option, Some, None, IfSome, [], ◌∷◌, ◌++◌, length, pow-suc, pow-add, add-one, mul-le-mul_right, eqb, ⊎_elim, length-append, length-take}
+use Rattle.std.proofs.Common.{◌≡◌, ◌≢◌, refl, sym, ap, subst, ◌∙◌, arith, ℕ, suc, ◌+◌, ◌-◌, ◌*◌, ◌%◌, ◌^◌, ◌<◌, ◌≤◌, Bool, true, false, cond, not, ◌&&◌, ◌||◌, drop, min, take, get_or, append_assoc, Option, Some, None, IfSome, [], ◌∷◌, ◌++◌, length, pow-suc, pow-add, add-one, mul-le-mul_right, eqb, ⊎_elim, length-append, length-take}
 use Rattle.std.specs.List.{list_all, list_any, prefix_len, suffix_len, position_or_len, after_first}
 use Rattle.std.specs.Prelude.{pos}
 use Rattle.std.proofs.lemmas.Bool.{lt-ltb, cases_lt}
@@ -7,7 +7,7 @@ use Rattle.std.proofs.lemmas.Bool.Decides.{nat_tests}
 use Rattle.std.proofs.lemmas.List.{reverse-append, drop_all, take_more}
 use Rattle.std.proofs.lemmas.List.Sums.{fold-append, prefix_len-le-length}
 use Rattle.std.proofs.lemmas.List.Folds.{list_all-append}
-use Rattle.cgl_num.specs.NumberText.{Word, natural, is_digit, is_digits, is_zero, size, unsigned, is_point, is_exponent_letter, near_exponent, has_exponent_form, digits_in, IsCounted}
+use Rattle.cgl_num.specs.NumberText.{Word, natural, is_digit, is_digits, is_zero, size, unsigned, near, is_point, is_exponent_letter, near_exponent, has_exponent_form, digits_in, IsCounted}
 use Rattle.cgl_num.proofs.DecimalLaws.{tens_mono}
 
 pub natural-push : (ds : Word) (b : ℕ) → natural (ds ++ b ∷ []) ≡ 10 * natural ds + (b - 48)
@@ -15,6 +15,15 @@ natural-push ds b = fold-append (λ n d. 10 * n + (d - 48)) 0 ds (b ∷ [])
 
 pub all-push : (ds : Word) (b : ℕ) → list_all is_digit ds ≡ true → is_digit b ≡ true → list_all is_digit (ds ++ b ∷ []) ≡ true
 all-push ds b all one = list_all-append is_digit ds (b ∷ []) ∙ ap (λ t. t && list_all is_digit (b ∷ [])) all ∙ ap (λ t. t && true) one
+
+-- one digit more of a number that is known up to 10^30
+pub near_all : (text : Word) (i : ℕ) → i < length text → list_all is_digit (take i text) ≡ true → is_digit (get_or text i 0) ≡ true → list_all is_digit (take (i + 1) text) ≡ true
+near_all text i less all one = ap (list_all is_digit) (take_more text i 0 less) ∙ all-push (take i text) (get_or text i 0) all one
+
+pub near_more : (text : Word) (i n m : ℕ) → i < length text → n ≡ near (natural (take i text)) → m ≡ min (10 * n + (get_or text i 0 - 48)) (10 ^ 30) → m ≡ near (natural (take (i + 1) text))
+near_more text i n m less value is =
+    let whole = ap natural (take_more text i 0 less) ∙ natural-push (take i text) (get_or text i 0) in
+    omega (arith, value, is, whole)
 
 pub suffix-push : (p : ℕ → Bool) (ds : Word) (b : ℕ) → suffix_len p (ds ++ b ∷ []) ≡ cond (p b) (1 + suffix_len p ds) 0
 suffix-push p ds b = ap (prefix_len p) (reverse-append ds (b ∷ []))

@@ -94,3 +94,9 @@ returns c =
     match_weaker c.reduced.result (den_overflows f h _ _ _ c.in-Some.num parts made.0)
     (λ s q. sum_fits f h _ _ _ c.in-Some.num s parts made.0 made.1 made.2 made.3 q.0 q.1)
     (rw (t_is, x_is, d_is) at c.reduced.ensures)
+
+pub reduced-requires-clause-narrow : goal.reduced-requires-clause-narrow
+reduced-requires-clause-narrow c = rw (to_z-of_z w128 c.in-Some.num (search rules)) c.in-Some.ensures.1
+
+pub reduced-requires-clause-den : goal.reduced-requires-clause-den
+reduced-requires-clause-den c = rw (to_z-of_z w128 c.args.d c.ranges.d) c.requires.right.positive

@@ -20,7 +20,7 @@ pub digits-init : goal.digits-init
 digits-init c = search rules
 
 pub bounds-text-byte-index : goal.bounds-text-byte-index
-bounds-text-byte-index c = search rules
+bounds-text-byte-index c = omega arith
 
 pub is_digit-requires : goal.is_digit-requires
 is_digit-requires c = search rules
@@ -29,10 +29,10 @@ pub returns-then-not-is_digit-clause-none : goal.returns-then-not-is_digit-claus
 returns-then-not-is_digit-clause-none c = not_all c.args.text.now c.digits.byte-index c.digits-test.true (sym c.is_digit.ensures ∙ c.if-not-is_digit.true)
 
 pub returns-then-not-is_digit-clause-some : goal.returns-then-not-is_digit-clause-some
-returns-then-not-is_digit-clause-some c = search rules
+returns-then-not-is_digit-clause-some c = tt
 
 pub returns-then-not-is_digit-clause-room : goal.returns-then-not-is_digit-clause-room
-returns-then-not-is_digit-clause-room c = search rules
+returns-then-not-is_digit-clause-room c = tt
 
 pub overflow_sub-byte : goal.overflow_sub-byte
 overflow_sub-byte c = search rules
@@ -41,19 +41,19 @@ pub push-counted-requires-clause-digit : goal.push-counted-requires-clause-digit
 push-counted-requires-clause-digit c = search rules
 
 pub push-counted-requires-clause-zeros : goal.push-counted-requires-clause-zeros
-push-counted-requires-clause-zeros c = search rules
+push-counted-requires-clause-zeros c = omega arith
 
 pub push-counted-requires-clause-size : goal.push-counted-requires-clause-size
-push-counted-requires-clause-size c = search rules
+push-counted-requires-clause-size c = omega arith
 
 pub digits-smaller : goal.digits-smaller
-digits-smaller c = search rules
+digits-smaller c = omega arith
 
 pub returns-clause-none : goal.returns-clause-none
-returns-clause-none c = search rules
+returns-clause-none c = tt
 
 pub returns-clause-some : goal.returns-clause-some
 returns-clause-some c = λ before is. whole_counted before c.args.text.now c.digits.byte-index _ _ _ c.digits-test.false (c.digits.invariant.counted before is)
 
 pub returns-clause-room : goal.returns-clause-room
-returns-clause-room c = search rules
+returns-clause-room c = (omega arith, omega arith)

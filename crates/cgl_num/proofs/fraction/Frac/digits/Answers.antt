@@ -40,6 +40,13 @@ returns-then-self-eq1-clause-text c =
     let one : c.self.inside.den ≡ pos 1 = omega (arith, ints, c.if-self-eq1.true, c.self.invariant.positive) in
     (rw is at c.put_number-end.ensures.text) ∙ sym (text_whole (record { num = c.self.inside.num; den = c.self.inside.den }) one) ∙ ap fraction_text c.self.view_is
 
+pub returns-then-self-eq1-clause-within : goal.returns-then-self-eq1-clause-within
+returns-then-self-eq1-clause-within c =
+    let is = to_z-of_z w128 c.self.inside.num (search rules) in
+    let short = length_number c.self.inside.num c.self.invariant.narrow_num in
+    let end = rw is at c.put_number-end.ensures.end in
+    omega (arith, short, end)
+
 pub returns-clause-within : goal.returns-clause-within
 returns-clause-within c =
     let is = to_z-of_z w128 c.self.inside.num (search rules) in
