@@ -1,11 +1,11 @@
 -- Laws of a place in a list that is in order.
-use Rattle.std.proofs.Common.{◌≡◌, ℕ, zero, suc, ◌+◌, ◌<◌, List, [], ◌∷◌, ◌++◌, Some, length, take, get_or, set, refl, sym, ap, ◌∙◌, subst, arith, true, false, cond}
+use Rattle.std.proofs.Common.{◌≡◌, ℕ, zero, suc, ◌+◌, ◌<◌, List, [], ◌∷◌, ◌++◌, Some, length, take, get_or, set, refl, sym, ap, ◌∙◌, subst, arith}
 use Rattle.std.proofs.lemmas.List.{take_more}
 use Rattle.std.specs.Prelude.{slice_get, insert}
 use Rattle.std.specs.List.{AllByRecursion}
 use Rattle.std.specs.Ordering.{match_ordering}
 use Rattle.cgl_pool.specs.declared.pool.Kept.{Kept}
-use Rattle.cgl_pool.specs.Listed.{Key, is_key_less, insert_key}
+use Rattle.cgl_pool.specs.Listed.{Key, insert_key}
 use Rattle.cgl_pool.specs.Offered.{offered, with_lesser_key, IsFree, IsTaken, IsFreeKey, IsTakenKey}
 
 -- a cut whose place is free
@@ -18,26 +18,14 @@ offered_free k (other ∷ cuts) (suc at) free =
     ap (λ z. other ∷ z) (offered_free k cuts at rest)
     ∙ sym (ap (λ o. match_ordering o (k ∷ other ∷ cuts) (with_lesser_key k other ∷ cuts) (other ∷ offered k cuts)) free.above.0)
 
--- a cut whose place is taken, under a key that is greater
-pub taken_lesser : (k other : Kept) (cuts : List Kept) (at : ℕ) → IsTaken k.candidate.cut cuts at → other ≡ get_or cuts at other → is_key_less k.key other.key ≡ true → set cuts at k ≡ offered k cuts
-taken_lesser k other [] at taken is less = absurd (omega (arith, taken.within))
-taken_lesser k other (first ∷ cuts) zero taken is less =
-    let test : is_key_less k.key first.key ≡ true = subst (λ (z : Kept). is_key_less k.key z.key ≡ true) is less in
-    sym (ap (λ o. match_ordering o (k ∷ first ∷ cuts) (with_lesser_key k first ∷ cuts) (first ∷ offered k cuts)) (taken.same first refl) ∙ ap (λ b. cond b k first ∷ cuts) test)
-taken_lesser k other (first ∷ cuts) (suc at) taken is less =
+-- a cut whose place is taken
+pub offered_taken : (k other : Kept) (cuts : List Kept) (at : ℕ) → IsTaken k.candidate.cut cuts at → other ≡ get_or cuts at other → set cuts at (with_lesser_key k other) ≡ offered k cuts
+offered_taken k other [] at taken is = absurd (omega (arith, taken.within))
+offered_taken k other (first ∷ cuts) zero taken is =
+    sym (ap (λ o. match_ordering o (k ∷ first ∷ cuts) (with_lesser_key k first ∷ cuts) (first ∷ offered k cuts)) (taken.same first refl) ∙ ap (λ z. with_lesser_key k z ∷ cuts) (sym is))
+offered_taken k other (first ∷ cuts) (suc at) taken is =
     let rest : IsTaken k.candidate.cut cuts at = record { within = omega (arith, taken.within); above = taken.above.1; same = taken.same } in
-    ap (λ z. first ∷ z) (taken_lesser k other cuts at rest is less)
-    ∙ sym (ap (λ o. match_ordering o (k ∷ first ∷ cuts) (with_lesser_key k first ∷ cuts) (first ∷ offered k cuts)) taken.above.0)
-
--- a cut whose place is taken, under a key that is not greater
-pub taken_greater : (k other : Kept) (cuts : List Kept) (at : ℕ) → IsTaken k.candidate.cut cuts at → other ≡ get_or cuts at other → is_key_less k.key other.key ≡ false → cuts ≡ offered k cuts
-taken_greater k other [] at taken is less = absurd (omega (arith, taken.within))
-taken_greater k other (first ∷ cuts) zero taken is less =
-    let test : is_key_less k.key first.key ≡ false = subst (λ (z : Kept). is_key_less k.key z.key ≡ false) is less in
-    sym (ap (λ o. match_ordering o (k ∷ first ∷ cuts) (with_lesser_key k first ∷ cuts) (first ∷ offered k cuts)) (taken.same first refl) ∙ ap (λ b. cond b k first ∷ cuts) test)
-taken_greater k other (first ∷ cuts) (suc at) taken is less =
-    let rest : IsTaken k.candidate.cut cuts at = record { within = omega (arith, taken.within); above = taken.above.1; same = taken.same } in
-    ap (λ z. first ∷ z) (taken_greater k other cuts at rest is less)
+    ap (λ z. first ∷ z) (offered_taken k other cuts at rest is)
     ∙ sym (ap (λ o. match_ordering o (k ∷ first ∷ cuts) (with_lesser_key k first ∷ cuts) (first ∷ offered k cuts)) taken.above.0)
 
 all_push : {A : Type 0} (P : A → Type 0) (xs : List A) (x : A) → AllByRecursion P xs → P x → AllByRecursion P (xs ++ x ∷ [])

@@ -1,5 +1,5 @@
 ghost use Rattle.std.specs.Prelude.{◌≡◌, OnOk, IfOk, IfErr};
-ghost use Rattle.cgl_pool.specs.Offered.{IsFree, IsTaken, offered};
+ghost use Rattle.cgl_pool.specs.Offered.{IsFree, IsTaken, offered, with_lesser_key};
 
 use crate::Kept;
 use crate::compare::{compare, is_key_less};
@@ -22,15 +22,22 @@ fn place_of(listed: &[Kept], cut: &Ineq) -> Result<usize, usize>
     Err(listed.len())
 }
 
+/// Puts the cut in place of the other where its key is less.
+fn keep_lesser(other: &mut Kept, kept: Kept)
+    ensures { other.new ≡ with_lesser_key kept other.old }
+{
+    if is_key_less(kept.key, other.key) {
+        *other = kept;
+    }
+}
+
 /// Puts a cut in its place; of two with the same inequality the one with the lesser key stays.
 pub fn offer(listed: &mut Vec<Kept>, kept: Kept) -> Result<(), Memory>
     ensures { OnOk result (listed.new.items ≡ offered kept listed.old.items) }
 {
     match place_of(listed, &kept.candidate.cut) {
         Ok(at) => {
-            if is_key_less(kept.key, listed[at].key) {
-                listed[at] = kept;
-            }
+            keep_lesser(&mut listed[at], kept);
             Ok(())
         }
         Err(at) => {

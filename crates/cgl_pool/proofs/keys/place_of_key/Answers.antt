@@ -2,7 +2,7 @@ use Rattle.std.proofs.Common.{◌≡◌, sym, subst, arith, ℕ, length, take}
 use Rattle.std.specs.List.{AllByRecursion}
 use Rattle.cgl_pool.specs.Offered.{IsAboveKey}
 use Rattle.cgl_pool.proofs.PlaceLaws.{all_more, no_item}
-use Rattle.std.specs.declared.cmp.Ordering.TheVariants.{Less}
+use Rattle.std.specs.declared.cmp.Ordering.TheVariants.{Less, Equal}
 use Rattle.std.proofs.lemmas.Option.{get_or_from_slice_get}
 use Rattle.cgl_pool.specs.Listed.{Key, key_cmp}
 use Rattle.cgl_pool.proofs.keys.place_of_key.Goals as goal
@@ -14,6 +14,15 @@ returns-in-Less-clause-free c =
       within = omega arith;
       above = c.loop-at.invariant;
       below = (λ other is. subst P (get_or_from_slice_get c.args.keys.now c.loop-at.at other (0, 0) is) (sym c.in-Less.ensures));
+    }
+
+pub returns-in-Equal-clause-taken : goal.returns-in-Equal-clause-taken
+returns-in-Equal-clause-taken c =
+    let P : Key → Type 0 = λ other. key_cmp c.args.key other ≡ Equal in
+    record {
+      within = c.loop-at-test.true;
+      above = c.loop-at.invariant;
+      same = (λ other is. subst P (get_or_from_slice_get c.args.keys.now c.loop-at.at other (0, 0) is) (sym c.in-Equal.ensures));
     }
 
 pub loop-at-preserved : goal.loop-at-preserved

@@ -1,18 +1,13 @@
-use Rattle.std.proofs.Common.{◌∙◌, sym, subst, List}
+use Rattle.std.proofs.Common.{◌∙◌, ap, subst, set, List}
 use Rattle.cgl_pool.specs.declared.pool.Kept.{Kept}
 use Rattle.cgl_pool.specs.Offered.{IsFree, IsTaken}
-use Rattle.cgl_pool.proofs.PlaceLaws.{offered_free, taken_lesser, taken_greater}
+use Rattle.cgl_pool.proofs.PlaceLaws.{offered_free, offered_taken}
 use Rattle.cgl_pool.proofs.offer.offer.Goals as goal
 
-pub returns-then-is_key_less : goal.returns-then-is_key_less
-returns-then-is_key_less c =
+pub returns-in-Ok : goal.returns-in-Ok
+returns-in-Ok c =
     let taken = subst (λ (cuts : List Kept). IsTaken c.args.kept.candidate.cut cuts c.in-Ok.at) c.deref.ensures.value c.in-Ok.ensures.taken in
-    taken_lesser c.args.kept c.index.result.now c.args.listed.now.items c.in-Ok.at taken c.index.ensures (sym c.if-is_key_less.ensures)
-
-pub returns-else-is_key_less : goal.returns-else-is_key_less
-returns-else-is_key_less c =
-    let taken = subst (λ (cuts : List Kept). IsTaken c.args.kept.candidate.cut cuts c.in-Ok.at) c.deref.ensures.value c.in-Ok.ensures.taken in
-    taken_greater c.args.kept c.index.result.now c.args.listed.now.items c.in-Ok.at taken c.index.ensures (sym c.if-is_key_less.ensures)
+    ap (set c.args.listed.now.items c.in-Ok.at) c.keep_lesser.ensures ∙ offered_taken c.args.kept c.index_mut.result.now c.args.listed.now.items c.in-Ok.at taken c.index_mut.ensures.value
 
 pub returns-in-Ok-insert : goal.returns-in-Ok-insert
 returns-in-Ok-insert c =
