@@ -258,6 +258,12 @@ cut_answer side x g h c v same e f =
     ap (λ z. Cut (record { cut = c; derivation = round_from side.place z c; violation = v })) same
     ∙ ap (λ z. Cut (record { cut = c; derivation = round_from side.place g c; violation = z })) is.1 ∙ judged side x g c true e is.0
 
+pub some_violation : (c : Ineq) (x : Point) (v : Fraction) → v ≡ violation c x → pos 0 <ℤ v.num → Some v ≡ cond (is_violated c x) (Some (violation c x)) None
+some_violation c x v is above =
+    let here : pos 0 <ℤ (violation c x).num = subst (λ (z : Fraction). pos 0 <ℤ z.num) is above in
+    let test : is_violated c x ≡ true = grind (arith, ints, here) in
+    ap Some is ∙ sym (ap (λ b. cond b (Some (violation c x)) None) test)
+
 -- ---- whether a column is integer
 
 pub integer_at : (m : Model) (items : List Column) (j : ℕ) (d x : Column) → items ≡ m.cols → nat_lt j (length items) ≡ true → x ≡ slice_index_or items j d → x.integer ≡ is_integer m j
