@@ -1,5 +1,8 @@
 //! Bytes in the lines of cases: `\n`, `\r`, `\t` and `\\` as usual, `\xHH` for any byte, and `\{N}` for N times the byte
 //! that follows.
+ghost use Rattle.std.specs.Prelude.{◌≤◌, length, ◌^◌, IfSome};
+
+use cgl_outside::{Sink, SureSink};
 use std::alloc::{AllocError, Global};
 
 /// What the next byte of a text is read as.
@@ -56,7 +59,7 @@ fn next(state: State, byte: u8) -> Read {
 }
 
 /// Puts the bytes that a text means.
-pub fn put_bytes(bytes: &mut Vec<u8>, text: &str) -> Result<(), AllocError> {
+fn put_meant(bytes: &mut Vec<u8>, text: &str) -> Result<(), AllocError> {
     let mut state = State::Plain;
     let mut times = 1usize;
     for byte in text.as_bytes() {
@@ -74,21 +77,30 @@ pub fn put_bytes(bytes: &mut Vec<u8>, text: &str) -> Result<(), AllocError> {
     Ok(())
 }
 
-pub fn bytes_of(alloc: Global, text: &str) -> Result<Vec<u8>, AllocError> {
+/// The bytes that a text means, at most 2^20.
+pub fn bytes_of(alloc: Global, text: &str) -> Option<Vec<u8>>
+    ensures { IfSome result (λ bytes. length bytes.items ≤ 2 ^ 20) }
+{
     let mut bytes = Vec::new(alloc);
-    put_bytes(&mut bytes, text)?;
-    Ok(bytes)
+    if put_meant(&mut bytes, text).is_ok() && bytes.len() <= 1 << 20 {
+        Some(bytes)
+    } else {
+        None
+    }
 }
 
-/// Puts a text that means these bytes.
-pub fn put_text(text: &mut String, bytes: &[u8]) -> Result<(), AllocError> {
+/// Puts a text on the output, which counts what memory was refused to.
+pub fn put(out: &mut SureSink, text: &str) {
+    let _done = out.put(text.as_bytes());
+}
+
+/// Puts bytes on one line: each line feed as `\n`.
+pub fn put_line(out: &mut SureSink, bytes: &[u8]) {
     for byte in bytes {
-        match *byte {
-            b'\n' => text.push_str("\\n")?,
-            b'\\' => text.push_str("\\\\")?,
-            b' '..=b'~' => text.push(char::from(*byte))?,
-            _ => write!(text, "\\x{:02x}", *byte)?,
+        if *byte == b'\n' {
+            put(out, "\\n");
+        } else {
+            let _done = out.put(&[*byte]);
         }
     }
-    Ok(())
 }

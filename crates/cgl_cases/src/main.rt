@@ -1,5 +1,5 @@
-//! Writes each line of standard input and behind it what the public calls answer: a line is a word, which names a call, and
-//! what the call takes.
+//! Writes each line of standard input and behind it what the public calls answer: a line is a word, which names the calls,
+//! and what they take. Where memory is refused, a part of the answer is lacking.
 #![tactic(auto)]
 
 mod bytes;
@@ -9,33 +9,77 @@ mod points;
 mod runs;
 mod violations;
 
-use runs::Bench;
-use std::alloc::{AllocError, Global};
+use bytes::put;
+use cgl_outside::{SureShelf, SureSink};
+use std::alloc::Global;
 use std::io;
+use std::io::Write;
 
-fn tell(alloc: Global, out: &mut String, bench: &mut Bench, line: &str) -> Result<(), AllocError> {
+/// What the answer to a line is about.
+#[derive(Clone, Copy)]
+enum Case {
+    Fraction,
+    Sums,
+    Number,
+    Violation,
+    Point,
+    Sides,
+    Text,
+    Run,
+    SureRun,
+    File,
+}
+
+const WORDS: [(&str, Case); 9] = [
+    ("fraction", Case::Fraction),
+    ("sums", Case::Sums),
+    ("number", Case::Number),
+    ("violation", Case::Violation),
+    ("point", Case::Point),
+    ("sides", Case::Sides),
+    ("text", Case::Text),
+    ("run", Case::Run),
+    ("sure", Case::SureRun),
+];
+
+/// The case that a word names. Each other word is the name of a file.
+fn case_of(word: &str) -> Case {
+    for &(name, case) in &WORDS {
+        if name == word {
+            return case;
+        }
+    }
+    Case::File
+}
+
+fn tell(alloc: Global, out: &mut SureSink, files: &mut SureShelf, line: &str) {
     let (word, rest) = line.split_once(' ').unwrap_or((line, ""));
-    match word {
-        "file" => bench.put_file(alloc, rest),
-        "no_file" => bench.drop_file(rest),
-        "fail" => bench.put_fail(alloc, rest),
-        "run" => bench.tell_run(alloc, out, rest),
-        "sure" => bench.tell_sure_run(alloc, out, rest),
-        "sides" | "names" | "text" => models::tell(alloc, out, word, rest),
-        "point" => points::tell(alloc, out, rest),
-        "violation" => violations::tell(alloc, out, rest),
-        _ => numbers::tell(alloc, out, line),
+    let case = case_of(word);
+    match case {
+        Case::Fraction => numbers::tell_fraction(out, rest),
+        Case::Sums => numbers::tell_sums(out, rest),
+        Case::Number => numbers::tell_number(out, rest),
+        Case::Violation => violations::tell(alloc, out, rest),
+        Case::Point => points::tell(alloc, out, rest),
+        Case::Sides | Case::Text => models::tell(alloc, out, case, rest),
+        Case::Run => runs::tell_run(alloc, out, files, rest),
+        Case::SureRun => runs::tell_sure_run(alloc, out, files, rest),
+        Case::File => runs::put_file(alloc, files, word, rest),
+    }
+}
+
+fn tell_all(alloc: Global, out: &mut SureSink, lines: &str) {
+    let mut files = SureShelf::new(alloc);
+    for line in lines.lines() {
+        put(out, line);
+        tell(alloc, out, &mut files, line);
+        put(out, "\n");
     }
 }
 
 fn main(rt: HostRuntime) -> io::Result<()> {
-    let alloc = rt.alloc();
-    let mut bench = Bench::new(alloc);
-    for line in rt.lines(alloc) {
-        let mut text = line?;
-        let line = String::from_str(alloc, &text)?;
-        tell(alloc, &mut text, &mut bench, &line)?;
-        println!(rt; "{text}")?;
-    }
-    Ok(())
+    let lines = io::read_to_string(rt.alloc(), rt.stdin())?;
+    let mut out = SureSink::new(rt.alloc());
+    tell_all(rt.alloc(), &mut out, &lines);
+    rt.stdout().write_all(out.bytes())
 }

@@ -1,77 +1,113 @@
-//! Cases of decks: the sides of a model, names for cuts, and canonical texts.
-ghost use Rattle.std.specs.Prelude.{IfOk, IfSome};
+//! Cases of decks: the sides of a model, its canonical text, and names for cuts.
+ghost use Rattle.std.specs.Prelude.{◌≤◌, length, ◌^◌};
 ghost use Rattle.cgl_model.specs.Valid.{IsValid};
 
-use crate::bytes::{bytes_of, put_text};
+use crate::Case;
+use crate::bytes::{bytes_of, put, put_line};
+use crate::numbers::put_whole;
+use crate::points::put_bad_line;
 use cgl_deck::{cut_names, deck_len, deck_text, write_deck};
 use cgl_model::{End, Forms, Model, Place, Side};
 use cgl_mps::{DeckError, deck_of};
-use cgl_outside::SureShelf;
-use std::alloc::{AllocError, Global};
+use cgl_outside::{SureShelf, SureSink};
+use std::alloc::Global;
 
-fn put_side(out: &mut String, side: &Side) -> Result<(), AllocError> {
-    let terms = side.ineq.terms.as_slice();
-    write!(out, "\n  {:?}: {terms:?} >= {}", side.place, side.ineq.rhs)
+fn put_side(out: &mut SureSink, side: &Side) {
+    put(out, ":");
+    for (column, coefficient) in side.ineq.terms.as_slice() {
+        put(out, " ");
+        put_whole(out, *coefficient);
+        put(out, " x");
+        put_whole(out, *column as i128);
+    }
+    put(out, " >= ");
+    put_whole(out, side.ineq.rhs);
 }
 
-fn put_row(out: &mut String, forms: &Forms, row: u32) -> Result<(), AllocError> {
-    let lower = forms.find(Place::Row(row, End::Lower));
-    let upper = forms.find(Place::Row(row, End::Upper));
-    let wide = forms.wide(row);
-    write!(
+/// Tells the number of the side at a place, and the side, if there is one.
+fn put_place(out: &mut SureSink, forms: &Forms, place: Place) {
+    match forms.find(place) {
+        Some(number) => {
+            put_whole(out, number as i128);
+            if let Some(side) = forms.sides().get(number as usize) {
+                put_side(out, side);
+            }
+        }
+        None => put(out, "none"),
+    }
+}
+
+fn put_end(out: &mut SureSink, end: Option<i128>) {
+    match end {
+        Some(end) => put_whole(out, end),
+        None => put(out, "none"),
+    }
+}
+
+fn put_form(out: &mut SureSink, forms: &Forms, row: u32) {
+    if forms.wide(row) {
+        put(out, "; wide");
+    }
+    if let Some(form) = forms.row_form(row) {
+        put(out, "; from ");
+        put_end(out, form.lo);
+        put(out, " to ");
+        put_end(out, form.up);
+    }
+}
+
+fn put_ends(out: &mut SureSink, forms: &Forms, lower: Place, upper: Place) {
+    put(out, ": lower ");
+    put_place(out, forms, lower);
+    put(out, "; upper ");
+    put_place(out, forms, upper);
+}
+
+fn put_row(out: &mut SureSink, forms: &Forms, row: u32) {
+    put(out, "\n  row ");
+    put_whole(out, row as i128);
+    put_ends(
         out,
-        "\n  row {row}: lower {lower:?} upper {upper:?} wide {wide}"
-    )?;
-    match forms.row_form(row) {
-        Some(form) => write!(out, " form {:?} to {:?}", form.lo, form.up),
-        None => Ok(()),
-    }
+        forms,
+        Place::Row(row, End::Lower),
+        Place::Row(row, End::Upper),
+    );
+    put_form(out, forms, row);
 }
 
-fn put_column(out: &mut String, forms: &Forms, column: u32) -> Result<(), AllocError> {
-    let lower = forms.find(Place::Bound(column, End::Lower));
-    let upper = forms.find(Place::Bound(column, End::Upper));
-    write!(out, "\n  column {column}: lower {lower:?} upper {upper:?}")
+fn put_column(out: &mut SureSink, forms: &Forms, column: u32) {
+    put(out, "\n  column ");
+    put_whole(out, column as i128);
+    put_ends(
+        out,
+        forms,
+        Place::Bound(column, End::Lower),
+        Place::Bound(column, End::Upper),
+    );
 }
 
-/// Tells each side, and then each row and column, and one of each that is not there.
-fn put_forms(out: &mut String, forms: &Forms, rows: u32, columns: u32) -> Result<(), AllocError> {
-    for side in forms.sides() {
-        put_side(out, side)?;
+/// Tells the number of sides, and then each row and column, and one of each that is not there.
+fn put_forms(out: &mut SureSink, forms: &Forms, rows: u32, columns: u32) {
+    put(out, "\n  sides: ");
+    put_whole(out, forms.sides().len() as i128);
+    for row in 0..rows {
+        put_row(out, forms, row);
     }
-    for row in 0..=rows {
-        put_row(out, forms, row)?;
+    put_row(out, forms, rows);
+    for column in 0..columns {
+        put_column(out, forms, column);
     }
-    for column in 0..=columns {
-        put_column(out, forms, column)?;
-    }
-    Ok(())
+    put_column(out, forms, columns);
 }
 
-fn tell_sides(alloc: Global, out: &mut String, model: &Model) -> Result<(), AllocError>
+fn tell_sides(alloc: Global, out: &mut SureSink, model: &Model)
     requires { IsValid model.now }
 {
-    match Forms::build(alloc, model) {
-        Ok(forms) => put_forms(
-            out,
-            &forms,
-            model.rows.as_slice().len() as u32,
-            model.cols.as_slice().len() as u32,
-        ),
-        Err(_) => Err(AllocError),
+    if let Ok(forms) = Forms::build(alloc, model) {
+        let rows = model.rows.as_slice().len();
+        let columns = model.cols.as_slice().len();
+        put_forms(out, &forms, rows as u32, columns as u32);
     }
-}
-
-/// Tells the names of three cuts.
-fn tell_names(alloc: Global, out: &mut String, model: &Model) -> Result<(), AllocError> {
-    let Ok(names) = cut_names(alloc, model, 3) else {
-        return Err(AllocError);
-    };
-    for name in names.as_slice() {
-        out.push_str("\n  ")?;
-        put_text(out, name.as_slice())?;
-    }
-    Ok(())
 }
 
 /// Whether the model is written as this text.
@@ -84,37 +120,53 @@ fn is_written_as(alloc: Global, model: &Model, text: &[u8]) -> bool
 }
 
 /// Tells the canonical text, where it is what is written to a file.
-fn tell_text(alloc: Global, out: &mut String, model: &Model) -> Result<(), AllocError>
+fn tell_text(alloc: Global, out: &mut SureSink, model: &Model)
     requires { IsValid model.now }
 {
-    let Ok(text) = deck_text(alloc, model) else {
-        return Err(AllocError);
-    };
-    if !is_written_as(alloc, model, &text) {
-        return Ok(());
-    }
-    out.push_str("\n  ")?;
-    put_text(out, &text)
-}
-
-fn tell_model(alloc: Global, out: &mut String, word: &str, model: &Model) -> Result<(), AllocError>
-    requires { IsValid model.now }
-{
-    match word {
-        "sides" => tell_sides(alloc, out, model),
-        "names" => tell_names(alloc, out, model),
-        _ => tell_text(alloc, out, model),
+    if let Ok(text) = deck_text(alloc, model) {
+        if is_written_as(alloc, model, &text) {
+            put(out, "\n  ");
+            put_line(out, &text);
+        }
     }
 }
 
-pub fn tell(alloc: Global, out: &mut String, word: &str, deck: &str) -> Result<(), AllocError> {
-    let deck = bytes_of(alloc, deck)?;
-    if deck.len() > 1 << 20 {
-        return Ok(());
+/// Tells the names of three cuts.
+fn tell_names(alloc: Global, out: &mut SureSink, model: &Model) {
+    if let Ok(names) = cut_names(alloc, model, 3) {
+        put(out, "\n ");
+        for name in names.as_slice() {
+            put(out, " ");
+            put_line(out, name.as_slice());
+        }
     }
-    match deck_of(alloc, &deck) {
-        Ok(model) => tell_model(alloc, out, word, &model),
-        Err(DeckError::Fault { line, kind }) => write!(out, "\n  line {line} kind {kind}"),
-        Err(DeckError::Memory) => Err(AllocError),
+}
+
+fn tell_model(alloc: Global, out: &mut SureSink, case: Case, model: &Model)
+    requires { IsValid model.now }
+{
+    match case {
+        Case::Sides => tell_sides(alloc, out, model),
+        _ => {
+            tell_text(alloc, out, model);
+            tell_names(alloc, out, model);
+        }
+    }
+}
+
+fn tell_deck(alloc: Global, out: &mut SureSink, case: Case, deck: &[u8])
+    requires { length deck.now ≤ 2 ^ 20 }
+{
+    match deck_of(alloc, deck) {
+        Ok(model) => tell_model(alloc, out, case, &model),
+        Err(DeckError::Fault { line, kind }) => put_bad_line(out, line, kind),
+        Err(DeckError::Memory) => {}
+    }
+}
+
+/// Tells what the case asks of a deck, or its first bad line and kind.
+pub fn tell(alloc: Global, out: &mut SureSink, case: Case, deck: &str) {
+    if let Some(deck) = bytes_of(alloc, deck) {
+        tell_deck(alloc, out, case, &deck);
     }
 }

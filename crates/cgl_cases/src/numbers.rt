@@ -1,23 +1,10 @@
 //! Cases of fractions and decimals.
 ghost use Rattle.std.specs.Prelude.{◌<◌, ◌^◌, IfSome, unsigned_abs};
 
-use crate::bytes::put_text;
+use crate::bytes::put;
 use cgl_num::{Dec, Frac, Limit, NumberFault, Op, Overflow, gcd, is_number_text};
-use std::alloc::{AllocError, Global};
+use cgl_outside::{Sink, SureSink};
 use std::cmp::Ordering;
-
-/// What a call answers.
-#[derive(Clone, Copy)]
-enum Outcome {
-    Whole(i128),
-    Exact(Frac),
-    TooWide(Overflow),
-    Order(Ordering),
-    Bound(Limit),
-    Digits(Dec),
-    Refused(NumberFault),
-    Nothing,
-}
 
 fn whole(word: &str) -> Option<i128>
     ensures { IfSome result (λ n. unsigned_abs n < 2 ^ 127) }
@@ -28,132 +15,171 @@ fn whole(word: &str) -> Option<i128>
     }
 }
 
+fn fraction_of(num: Option<i128>, den: Option<i128>) -> Option<Frac>
+    requires { IfSome num (λ n. unsigned_abs n < 2 ^ 127) }
+{
+    match (num, den) {
+        (Some(num), Some(den)) if den > 0 => Some(Frac::new(num, den)),
+        _ => None,
+    }
+}
+
 /// The fraction of a word `NUM/DEN`.
 pub fn fraction(word: &str) -> Option<Frac> {
-    let (num, den) = word.split_once('/')?;
-    let (num, den) = (whole(num)?, whole(den)?);
-    if den <= 0 {
-        return None;
-    }
-    Some(Frac::new(num, den))
-}
-
-fn exact(found: Result<Frac, Overflow>) -> Outcome {
-    match found {
-        Ok(value) => Outcome::Exact(value),
-        Err(overflow) => Outcome::TooWide(overflow),
+    match word.split_once('/') {
+        Some((num, den)) => fraction_of(whole(num), whole(den)),
+        None => None,
     }
 }
 
-fn result_of(op: &str, a: Frac, b: Frac) -> Option<Outcome> {
-    match op {
-        "+" => Some(exact(a.add(b))),
-        "-" => Some(exact(a.sub(b))),
-        "*" => Some(exact(a.mul(b))),
-        "/" if b.num() != 0 => Some(exact(a.div(b))),
-        "?" if a.compare(b) == a.cmp(&b) => Some(Outcome::Order(a.cmp(&b))),
-        _ => None,
-    }
-}
-
-/// What is read of a text, which is to be of the form of a number where it is a number or is out of the limits.
-fn number(text: &str) -> Option<Outcome> {
-    let is_number = is_number_text(text.as_bytes());
-    match Dec::read(text.as_bytes()) {
-        Ok(number) if is_number => Some(Outcome::Bound(Limit::Finite(number))),
-        Err(fault) if is_number == (fault == NumberFault::Range) => Some(Outcome::Refused(fault)),
-        _ => None,
-    }
-}
-
-fn bound(text: &str) -> Outcome {
-    match Dec::read_bound(text.as_bytes()) {
-        Ok(limit) => Outcome::Bound(limit),
-        Err(fault) => Outcome::Refused(fault),
-    }
-}
-
-fn decimal(number: i128) -> Outcome {
-    match Dec::whole(number) {
-        Some(number) => Outcome::Bound(Limit::Finite(number)),
-        None => Outcome::Nothing,
-    }
-}
-
-fn told(words: &[&str]) -> Option<Outcome> {
-    match *words {
-        ["lowest", f] => Some(Outcome::Exact(fraction(f)?)),
-        ["floor", f] => Some(Outcome::Whole(fraction(f)?.floor())),
-        ["fract", f] => Some(Outcome::Exact(fraction(f)?.fract())),
-        ["gcd", a, b] => Some(Outcome::Whole(gcd(whole(a)?, whole(b)?))),
-        ["exact", a, op, b] => result_of(op, fraction(a)?, fraction(b)?),
-        ["number"] => number(""),
-        ["number", text] => number(text),
-        ["bound", text] => Some(bound(text)),
-        ["digits", text] => Some(Outcome::Digits(Dec::read(text.as_bytes()).ok()?)),
-        ["whole", n] => Some(decimal(n.parse::<i128>().ok()?)),
-        _ => None,
-    }
-}
-
-pub fn put_fraction(out: &mut String, f: Frac) -> Result<(), AllocError> {
+pub fn put_fraction(out: &mut SureSink, f: Frac) {
     let mut digits = [0; 80];
     let length = f.digits(&mut digits);
-    put_text(out, &digits[..length])
+    let _done = out.put(&digits[..length]);
 }
 
-fn put_decimal(out: &mut String, number: Dec) -> Result<(), AllocError> {
+pub fn put_whole(out: &mut SureSink, number: i128) {
+    if number > i128::MIN {
+        put_fraction(out, Frac::new(number, 1));
+    }
+}
+
+/// Tells a fraction in lowest terms, its floor and what is above it.
+pub fn tell_fraction(out: &mut SureSink, word: &str) {
+    let Some(f) = fraction(word) else {
+        return;
+    };
+    put(out, "\n  ");
+    put_fraction(out, f);
+    put(out, " = ");
+    put_whole(out, f.floor());
+    put(out, " + ");
+    put_fraction(out, f.fract());
+}
+
+fn put_overflow(out: &mut SureSink, overflow: Overflow) {
+    put(out, "too wide: ");
+    put_fraction(out, overflow.a);
+    put(
+        out,
+        match overflow.op {
+            Op::Add => " + ",
+            Op::Sub => " - ",
+            Op::Mul => " * ",
+            Op::Div => " / ",
+        },
+    );
+    put_fraction(out, overflow.b);
+}
+
+fn put_exact(out: &mut SureSink, found: Result<Frac, Overflow>) {
+    put(out, "\n  ");
+    match found {
+        Ok(value) => put_fraction(out, value),
+        Err(overflow) => put_overflow(out, overflow),
+    }
+}
+
+fn order(a: Frac, b: Frac) -> &'static str {
+    if a.compare(b) != a.cmp(&b) {
+        return "two orders";
+    }
+    match a.cmp(&b) {
+        Ordering::Less => "less",
+        Ordering::Equal => "equal",
+        Ordering::Greater => "greater",
+    }
+}
+
+fn put_sums(out: &mut SureSink, a: Frac, b: Frac) {
+    put_exact(out, a.add(b));
+    put_exact(out, a.sub(b));
+    put_exact(out, a.mul(b));
+    if b.num() != 0 {
+        put_exact(out, a.div(b));
+    }
+    put(out, "\n  ");
+    put(out, order(a, b));
+    put(out, ", gcd of the numerators ");
+    put_whole(out, gcd(a.num(), b.num()));
+}
+
+/// Tells the sum of two fractions, their difference, product, quotient and order, and the gcd of their numerators.
+pub fn tell_sums(out: &mut SureSink, words: &str) {
+    let (a, b) = words.split_once(' ').unwrap_or((words, ""));
+    if let Some(a) = fraction(a) {
+        if let Some(b) = fraction(b) {
+            put_sums(out, a, b);
+        }
+    }
+}
+
+fn put_decimal(out: &mut SureSink, number: Dec) {
     let mut digits = [0; 48];
     let length = number.digits(&mut digits);
-    put_text(out, &digits[..length])
+    let _done = out.put(&digits[..length]);
+    put(out, " = ");
+    put_whole(out, number.m());
+    put(out, " e");
+    put_whole(out, number.e() as i128);
 }
 
-fn put_overflow(out: &mut String, overflow: Overflow) -> Result<(), AllocError> {
-    out.push_str("too wide: ")?;
-    put_fraction(out, overflow.a)?;
-    out.push_str(match overflow.op {
-        Op::Add => " + ",
-        Op::Sub => " - ",
-        Op::Mul => " * ",
-        Op::Div => " / ",
-    })?;
-    put_fraction(out, overflow.b)
-}
-
-fn put_limit(out: &mut String, limit: Limit) -> Result<(), AllocError> {
+fn put_limit(out: &mut SureSink, limit: Limit) {
     match limit {
-        Limit::Plus => out.push_str("infinity"),
-        Limit::Minus => out.push_str("minus infinity"),
-        Limit::Finite(number) => write!(out, "{} e{}", number.m(), number.e()),
+        Limit::Plus => put(out, "infinity"),
+        Limit::Minus => put(out, "minus infinity"),
+        Limit::Finite(number) => put_decimal(out, number),
     }
 }
 
-fn put_fault(out: &mut String, fault: NumberFault) -> Result<(), AllocError> {
-    match fault {
-        NumberFault::Form => out.push_str("not of the form"),
-        NumberFault::Range => out.push_str("out of the limits"),
+fn put_fault(out: &mut SureSink, fault: NumberFault) {
+    put(
+        out,
+        match fault {
+            NumberFault::Form => "not of the form",
+            NumberFault::Range => "out of the limits",
+        },
+    );
+}
+
+fn put_number(out: &mut SureSink, text: &[u8]) {
+    match Dec::read(text) {
+        Ok(number) => put_decimal(out, number),
+        Err(fault) => put_fault(out, fault),
     }
 }
 
-fn put_outcome(out: &mut String, outcome: Outcome) -> Result<(), AllocError> {
-    match outcome {
-        Outcome::Whole(number) => write!(out, "{number}"),
-        Outcome::Exact(f) => put_fraction(out, f),
-        Outcome::TooWide(overflow) => put_overflow(out, overflow),
-        Outcome::Order(order) => write!(out, "{order:?}"),
-        Outcome::Bound(limit) => put_limit(out, limit),
-        Outcome::Digits(number) => put_decimal(out, number),
-        Outcome::Refused(fault) => put_fault(out, fault),
-        Outcome::Nothing => out.push_str("none"),
+fn put_bound(out: &mut SureSink, text: &[u8]) {
+    match Dec::read_bound(text) {
+        Ok(limit) => put_limit(out, limit),
+        Err(fault) => put_fault(out, fault),
     }
 }
 
-/// Tells what the call that the first word names answers, or nothing where there is none.
-pub fn tell(alloc: Global, out: &mut String, line: &str) -> Result<(), AllocError> {
-    let words: Vec<&str> = line.split_whitespace().collect(alloc)?;
-    out.push_str("\n  ")?;
-    match told(&words) {
-        Some(outcome) => put_outcome(out, outcome),
-        None => Ok(()),
+fn put_integer(out: &mut SureSink, number: i128) {
+    put(out, "\n  as an integer: ");
+    match Dec::whole(number) {
+        Some(number) => put_decimal(out, number),
+        None => put(out, "none"),
+    }
+}
+
+/// Tells whether a text is of the form of a number, what it is as a number and as a bound, and, where it has digits alone
+/// behind its sign, as an integer.
+pub fn tell_number(out: &mut SureSink, text: &str) {
+    let is_number = is_number_text(text.as_bytes());
+    put(
+        out,
+        if is_number {
+            "\n  a number: "
+        } else {
+            "\n  no number: "
+        },
+    );
+    put_number(out, text.as_bytes());
+    put(out, "\n  as a bound: ");
+    put_bound(out, text.as_bytes());
+    if let Ok(number) = text.parse::<i128>() {
+        put_integer(out, number);
     }
 }

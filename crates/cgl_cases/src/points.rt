@@ -1,32 +1,55 @@
 //! Cases of point files, for a model with the columns a, b and c.
-use crate::bytes::bytes_of;
-use cgl_model::Point;
+ghost use Rattle.std.specs.Prelude.{◌≤◌, length, ◌^◌};
+
+use crate::bytes::{bytes_of, put};
+use crate::numbers::put_whole;
+use cgl_model::{Model, Point};
 use cgl_mps::deck_of;
+use cgl_outside::SureSink;
 use cgl_where::{PointError, point_of};
-use std::alloc::{AllocError, Global};
+use std::alloc::Global;
 
 const DECK: &[u8] = b"ROWS\n L R\nCOLUMNS\n a R 1\n b R 1\n c R 1\nENDATA\n";
 
-fn put_point(out: &mut String, point: &Point) -> Result<(), AllocError> {
-    write!(out, "\n  over {}:", point.denominator())?;
+fn put_point(out: &mut SureSink, point: &Point) {
+    put(out, "\n  over ");
+    put_whole(out, point.denominator());
+    put(out, ":");
     for numerator in point.numerators() {
-        write!(out, " {numerator}")?;
+        put(out, " ");
+        put_whole(out, *numerator);
     }
-    Ok(())
+}
+
+/// Puts the first bad line and its kind.
+pub fn put_bad_line(out: &mut SureSink, line: u64, kind: u8) {
+    put(out, "\n  line ");
+    put_whole(out, line as i128);
+    put(out, " kind ");
+    put_whole(out, kind as i128);
+}
+
+fn tell_for(alloc: Global, out: &mut SureSink, file: &[u8], model: &Model)
+    requires { length file.now ≤ 2 ^ 20 }
+{
+    match point_of(alloc, file, model) {
+        Ok(point) => put_point(out, &point),
+        Err(PointError::Fault { line, kind }) => put_bad_line(out, line, kind),
+        Err(PointError::Memory) => {}
+    }
+}
+
+fn tell_file(alloc: Global, out: &mut SureSink, file: &[u8])
+    requires { length file.now ≤ 2 ^ 20 }
+{
+    if let Ok(model) = deck_of(alloc, DECK) {
+        tell_for(alloc, out, file, &model);
+    }
 }
 
 /// Tells the point, or the first bad line and its kind.
-pub fn tell(alloc: Global, out: &mut String, file: &str) -> Result<(), AllocError> {
-    let file = bytes_of(alloc, file)?;
-    if file.len() > 1 << 20 {
-        return Ok(());
-    }
-    let Ok(model) = deck_of(alloc, DECK) else {
-        return Err(AllocError);
-    };
-    match point_of(alloc, &file, &model) {
-        Ok(point) => put_point(out, &point),
-        Err(PointError::Fault { line, kind }) => write!(out, "\n  line {line} kind {kind}"),
-        Err(PointError::Memory) => Err(AllocError),
+pub fn tell(alloc: Global, out: &mut SureSink, file: &str) {
+    if let Some(file) = bytes_of(alloc, file) {
+        tell_file(alloc, out, &file);
     }
 }

@@ -1,181 +1,162 @@
 //! Cases of the program, over files and outputs in memory.
-use crate::bytes::{bytes_of, put_text};
+use crate::bytes::{bytes_of, put, put_line};
+use crate::numbers::put_whole;
 use cgl_app::run;
 use cgl_outside::{Call, Fail, MemShelf, MemSink, SureShelf, SureSink};
 use std::alloc::{AllocError, Global};
-use std::collections::BTreeMap;
 
 /// The names whose files are told.
 const NAMES: [&str; 4] = ["m.mps", "x.txt", "o.mps", "p.txt"];
 
-/// The files that a run finds, and the calls that fail in the next run: of the shelf, and of its two outputs.
-#[derive(Drop)]
-pub struct Bench {
-    files: BTreeMap<String, Vec<u8>>,
-    fails: Vec<Fail>,
-    out: Vec<(u64, u64)>,
-    err: Vec<(u64, u64)>,
+/// Gives a name the bytes that a text means.
+pub fn put_file(alloc: Global, files: &mut SureShelf, name: &str, text: &str) {
+    if let Some(bytes) = bytes_of(alloc, text) {
+        let _done = files.put_file(name, &bytes);
+    }
+}
+
+fn add_word(alloc: Global, words: &mut Vec<String>, word: &str) -> Result<(), AllocError> {
+    let word = String::from_str(alloc, word)?;
+    match words.push(word) {
+        Ok(()) => Ok(()),
+        Err(_) => Err(AllocError),
+    }
+}
+
+fn add_words(alloc: Global, words: &mut Vec<String>, command: &str) -> Result<(), AllocError> {
+    for word in command.split_whitespace() {
+        add_word(alloc, words, if word == "''" { "" } else { word })?;
+    }
+    Ok(())
 }
 
 /// The words of a command. `''` is an empty one.
-fn words_of(alloc: Global, text: &str) -> Result<Vec<String>, AllocError> {
+fn words_of(alloc: Global, command: &str) -> Vec<String> {
     let mut words = Vec::new(alloc);
-    for word in text.split_whitespace() {
-        let word = if word == "''" { "" } else { word };
-        words.push(String::from_str(alloc, word)?)?;
-    }
-    Ok(words)
+    let _done = add_words(alloc, &mut words, command);
+    words
 }
 
-fn number(word: &str) -> u64 {
-    word.parse::<u64>().unwrap_or(0)
+/// A fault `KIND NTH KEEP`: the kind of call, its number among those, and how many bytes it takes all the same.
+fn fault_of(fault: &str) -> Option<(&str, u64, u64)> {
+    let (kind, rest) = fault.split_once(' ')?;
+    let (nth, keep) = rest.split_once(' ')?;
+    Some((kind, nth.parse::<u64>().ok()?, keep.parse::<u64>().ok()?))
 }
 
-/// Tells what a name holds after a run, if it is not what it held before.
-fn put_file(
-    text: &mut String,
-    name: &str,
-    before: Option<&[u8]>,
-    after: Option<&[u8]>,
-) -> Result<(), AllocError> {
-    if before == after {
-        return Ok(());
-    }
-    write!(text, "\n  {name} ")?;
-    match after {
-        Some(bytes) => put_text(text, bytes),
-        None => text.push_str("is gone"),
+fn call_of(kind: &str) -> Option<Call> {
+    match kind {
+        "read" => Some(Call::Read),
+        "create" => Some(Call::Create),
+        "append" => Some(Call::Append),
+        _ => None,
     }
 }
 
-fn put_end(text: &mut String, status: u8, out: &[u8], err: &[u8]) -> Result<(), AllocError> {
-    write!(text, "\n  status {status}\n  out ")?;
-    put_text(text, out)?;
-    text.push_str("\n  err ")?;
-    put_text(text, err)
+fn add_fail(fails: &mut Vec<Fail>, fault: &str) {
+    if let Some((kind, nth, keep)) = fault_of(fault) {
+        if let Some(call) = call_of(kind) {
+            let _done = fails.push(Fail { call, nth, keep });
+        }
+    }
 }
 
-impl Bench {
-    pub fn new(alloc: Global) -> Bench {
-        Bench {
-            files: BTreeMap::new(alloc),
-            fails: Vec::new(alloc),
-            out: Vec::new(alloc),
-            err: Vec::new(alloc),
+/// A shelf with the files, whose calls have the faults of their kinds.
+fn shelf_with(alloc: Global, files: &SureShelf, faults: &str) -> MemShelf {
+    let mut fails = Vec::new(alloc);
+    for fault in faults.split(", ") {
+        add_fail(&mut fails, fault);
+    }
+    let mut shelf = MemShelf::new(alloc, fails);
+    put_files(&mut shelf, files);
+    shelf
+}
+
+fn put_files(shelf: &mut MemShelf, files: &SureShelf) {
+    for name in &NAMES {
+        if let Some(bytes) = files.file(name) {
+            let _done = shelf.put_file(name, bytes);
         }
     }
+}
 
-    fn file(&self, name: &str) -> Option<&[u8]> {
-        match self.files.get(name) {
-            Some(bytes) => Some(bytes.as_slice()),
-            None => None,
+fn add_pair(pairs: &mut Vec<(u64, u64)>, output: &str, fault: &str) {
+    if let Some((kind, nth, keep)) = fault_of(fault) {
+        if kind == output {
+            let _done = pairs.push((nth, keep));
         }
     }
+}
 
-    pub fn put_file(&mut self, alloc: Global, rest: &str) -> Result<(), AllocError> {
-        let (name, text) = rest.split_once(' ').unwrap_or((rest, ""));
-        let bytes = bytes_of(alloc, text)?;
-        self.files.insert(String::from_str(alloc, name)?, bytes)?;
-        Ok(())
+/// An output whose puts have the faults of its kind.
+fn sink_with(alloc: Global, output: &str, faults: &str) -> MemSink {
+    let mut pairs = Vec::new(alloc);
+    for fault in faults.split(", ") {
+        add_pair(&mut pairs, output, fault);
     }
+    MemSink::new(alloc, pairs)
+}
 
-    pub fn drop_file(&mut self, name: &str) -> Result<(), AllocError> {
-        self.files.remove(name);
-        Ok(())
-    }
+fn put_end(out: &mut SureSink, status: u8, written: &[u8], told: &[u8]) {
+    put(out, "\n  status ");
+    put_whole(out, status as i128);
+    put(out, "\n  out ");
+    put_line(out, written);
+    put(out, "\n  err ");
+    put_line(out, told);
+}
 
-    /// A call that fails: of which kind, its number among those, and how many bytes it takes all the same.
-    pub fn put_fail(&mut self, alloc: Global, rest: &str) -> Result<(), AllocError> {
-        let words: Vec<&str> = rest.split_whitespace().collect(alloc)?;
-        let [kind, nth, keep] = *words else {
-            return Ok(());
-        };
-        self.add_fail(kind, number(nth), number(keep))
-    }
-
-    fn add_fail(&mut self, kind: &str, nth: u64, keep: u64) -> Result<(), AllocError> {
-        let call = match kind {
-            "out" => return Ok(self.out.push((nth, keep))?),
-            "err" => return Ok(self.err.push((nth, keep))?),
-            "read" => Call::Read,
-            "create" => Call::Create,
-            _ => Call::Append,
-        };
-        Ok(self.fails.push(Fail { call, nth, keep })?)
-    }
-
-    /// A shelf with the files.
-    fn shelf(&mut self, alloc: Global) -> Result<MemShelf, AllocError> {
-        let fails = std::mem::replace(&mut self.fails, Vec::new(alloc));
-        let mut shelf = MemShelf::new(alloc, fails);
-        for (name, bytes) in self.files.iter() {
-            let Ok(()) = shelf.put_file(name, bytes) else {
-                return Err(AllocError);
-            };
+fn put_bytes_of(out: &mut SureSink, name: &str, bytes: Option<&[u8]>) {
+    put(out, "\n  ");
+    put(out, name);
+    match bytes {
+        Some(bytes) => {
+            put(out, " ");
+            put_line(out, bytes);
         }
-        Ok(shelf)
+        None => put(out, " is gone"),
     }
+}
 
-    fn sure_shelf(&self, alloc: Global) -> Result<SureShelf, AllocError> {
-        let mut shelf = SureShelf::new(alloc);
-        for (name, bytes) in self.files.iter() {
-            let Ok(()) = shelf.put_file(name, bytes) else {
-                return Err(AllocError);
-            };
+/// Tells the files that are not what they were.
+fn put_changes(out: &mut SureSink, before: &SureShelf, after: &MemShelf) {
+    for name in &NAMES {
+        if before.file(name) != after.file(name) {
+            put_bytes_of(out, name, after.file(name));
         }
-        Ok(shelf)
     }
+}
 
-    fn put_files(&self, text: &mut String, shelf: &MemShelf) -> Result<(), AllocError> {
-        for name in NAMES {
-            put_file(text, name, self.file(name), shelf.file(name))?;
-        }
-        Ok(())
-    }
+/// Tells a run over a shelf and outputs whose calls have the faults that stand before a colon, behind which the words are.
+pub fn tell_run(alloc: Global, out: &mut SureSink, files: &SureShelf, line: &str) {
+    let (faults, command) = line.split_once(':').unwrap_or(("", line));
+    let words = words_of(alloc, command);
+    let mut shelf = shelf_with(alloc, files, faults);
+    let mut to_out = sink_with(alloc, "out", faults);
+    let mut to_err = sink_with(alloc, "err", faults);
+    let status = run(alloc, &words, &mut shelf, &mut to_out, &mut to_err);
+    put_end(out, status, to_out.bytes(), to_err.bytes());
+    put_changes(out, files, &shelf);
+}
 
-    fn put_sure_files(&self, text: &mut String, shelf: &SureShelf) -> Result<(), AllocError> {
-        for name in NAMES {
-            put_file(text, name, self.file(name), shelf.file(name))?;
-        }
-        Ok(())
-    }
+fn put_refused(out: &mut SureSink, files: u64, to_out: u64, to_err: u64) {
+    put(out, "\n  refused ");
+    put_whole(out, files as i128);
+    put(out, " ");
+    put_whole(out, to_out as i128);
+    put(out, " ");
+    put_whole(out, to_err as i128);
+}
 
-    /// Tells a run over a shelf and outputs whose listed calls fail.
-    pub fn tell_run(
-        &mut self,
-        alloc: Global,
-        text: &mut String,
-        words: &str,
-    ) -> Result<(), AllocError> {
-        let words = words_of(alloc, words)?;
-        let mut shelf = self.shelf(alloc)?;
-        let mut out = MemSink::new(alloc, std::mem::replace(&mut self.out, Vec::new(alloc)));
-        let mut err = MemSink::new(alloc, std::mem::replace(&mut self.err, Vec::new(alloc)));
-        let status = run(alloc, &words, &mut shelf, &mut out, &mut err);
-        put_end(text, status, out.bytes(), err.bytes())?;
-        self.put_files(text, &shelf)
-    }
-
-    /// Tells a run over a shelf and outputs that fail for want of memory alone, and how often they did.
-    pub fn tell_sure_run(
-        &self,
-        alloc: Global,
-        text: &mut String,
-        words: &str,
-    ) -> Result<(), AllocError> {
-        let words = words_of(alloc, words)?;
-        let mut shelf = self.sure_shelf(alloc)?;
-        let mut out = SureSink::new(alloc);
-        let mut err = SureSink::new(alloc);
-        let status = run(alloc, &words, &mut shelf, &mut out, &mut err);
-        put_end(text, status, out.bytes(), err.bytes())?;
-        self.put_sure_files(text, &shelf)?;
-        write!(
-            text,
-            "\n  refused {} {} {}",
-            shelf.refused(),
-            out.refused(),
-            err.refused()
-        )
-    }
+/// Tells a run over the files themselves and outputs that fail for want of memory alone, what it leaves in the two files
+/// that it may write, and how often memory was refused.
+pub fn tell_sure_run(alloc: Global, out: &mut SureSink, files: &mut SureShelf, command: &str) {
+    let words = words_of(alloc, command);
+    let mut to_out = SureSink::new(alloc);
+    let mut to_err = SureSink::new(alloc);
+    let status = run(alloc, &words, files, &mut to_out, &mut to_err);
+    put_end(out, status, to_out.bytes(), to_err.bytes());
+    put_bytes_of(out, "o.mps", files.file("o.mps"));
+    put_bytes_of(out, "p.txt", files.file("p.txt"));
+    put_refused(out, files.refused(), to_out.refused(), to_err.refused());
 }

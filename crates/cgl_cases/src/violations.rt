@@ -1,8 +1,10 @@
 //! Cases of a violation: by how much a point x violates `2x >= 1`.
 ghost use Rattle.std.specs.Prelude.{◌≡◌, ◌<ℤ◌, ◌∷◌, [], length, pos, IfOk};
 
+use crate::bytes::put;
 use crate::numbers::{fraction, put_fraction};
 use cgl_model::{Ineq, Point, Seq, Terms};
+use cgl_outside::SureSink;
 use std::alloc::{AllocError, Global};
 
 fn inequality(alloc: Global) -> Result<Ineq, AllocError>
@@ -26,15 +28,28 @@ fn point(alloc: Global, num: i128, den: i128) -> Result<Point, AllocError>
     }
 }
 
-pub fn tell(alloc: Global, out: &mut String, word: &str) -> Result<(), AllocError> {
-    let Some(x) = fraction(word) else {
-        return Ok(());
-    };
-    let x = point(alloc, x.num(), x.den())?;
-    let cut = inequality(alloc)?;
-    out.push_str("\n  ")?;
-    match cut.violation(&x) {
-        Ok(violation) => put_fraction(out, violation),
-        Err(_) => out.push_str("too wide"),
+fn tell_for(alloc: Global, out: &mut SureSink, x: &Point)
+    requires { length x.now.p ≡ 1 }
+{
+    if let Ok(cut) = inequality(alloc) {
+        put(out, "\n  ");
+        match cut.violation(x) {
+            Ok(violation) => put_fraction(out, violation),
+            Err(_) => put(out, "too wide"),
+        }
+    }
+}
+
+fn tell_at(alloc: Global, out: &mut SureSink, num: i128, den: i128)
+    requires { pos 0 <ℤ den }
+{
+    if let Ok(x) = point(alloc, num, den) {
+        tell_for(alloc, out, &x);
+    }
+}
+
+pub fn tell(alloc: Global, out: &mut SureSink, word: &str) {
+    if let Some(x) = fraction(word) {
+        tell_at(alloc, out, x.num(), x.den());
     }
 }
