@@ -118,6 +118,12 @@ same_columns f g (name ∷ names) same =
 names-append : (some more : List ReadColumn) → names_of (some ++ more) ≡ names_of some ++ names_of more
 names-append some more = map-append (λ c. c.name) some more
 
+names_added_behind : (columns : ReadColumns) → columns.names ≡ names_of columns.ended → columns.names ++ names_of (cons_option columns.current []) ≡ names_of (all_of columns)
+names_added_behind columns is = ap (λ l. l ++ names_of (cons_option columns.current [])) is ∙ sym (names-append columns.ended (cons_option columns.current []))
+
+split_by : (lines : List Record) (columns : ReadColumns) → IsColumns lines columns → (name : Word) → is_split_in lines name ≡ is_one_of (names_of columns.ended) name
+split_by lines columns is name = is.split name ∙ ap (λ l. is_one_of l name) is.listed
+
 -- each of these is the column of its name
 abbrev Are : ColumnOf → List ReadColumn → Type 0
 Are f columns = columns ≡ map f (names_of columns)
@@ -193,15 +199,16 @@ after_marker_is lines columns r is mark =
     let known_all : (name : Word) → known lines name ≡ is_one_of (names_of all) name = λ name. known_among name lines (names_of all) is.names in
     let same_entries = marker_names lines r mark in
     record {
+      listed = names_added_behind columns is.listed;
       ended = all_stay lines r all (λ name found. (known_all name ∙ found, names_no_column r name mark)) (are_all lines columns is);
       current = refl;
       names = ap names_of (append-nil all) ∙ is.names ∙ ap (λ l. distinct (map (field 0) l)) (sym same_entries);
       split = λ name.
           is_parted-push (names_column name) lines r
           ∙ ap (λ b. is_split_in lines name || (known lines name && not b)) (names_no_column r name mark)
-          ∙ split_bools (is_split_in lines name) (known lines name) (is_one_of (names_of columns.ended) name) (is_one_of (names_of (cons_option columns.current [])) name) (is.split name)
+          ∙ split_bools (is_split_in lines name) (known lines name) (is_one_of (names_of columns.ended) name) (is_one_of (names_of (cons_option columns.current [])) name) (split_by lines columns is name)
           (known_all name ∙ ap (λ l. is_one_of l name) (names-append columns.ended (cons_option columns.current [])) ∙ list_any-append (bytes_eq name) (names_of columns.ended) (names_of (cons_option columns.current [])))
-          ∙ sym (ap (λ l. is_one_of l name) (names-append columns.ended (cons_option columns.current [])) ∙ list_any-append (bytes_eq name) (names_of columns.ended) (names_of (cons_option columns.current [])));
+          ∙ sym (ap (λ l. is_one_of l name) (names_added_behind columns is.listed ∙ names-append columns.ended (cons_option columns.current [])) ∙ list_any-append (bytes_eq name) (names_of columns.ended) (names_of (cons_option columns.current [])));
       goes_on = λ c some. cc;
       word = sym (ap (λ l. last_or [] (map (field 2) l)) (filter-append is_marker lines (r ∷ []) ∙ ap (λ b. filter is_marker lines ++ cond b (r ∷ []) []) mark)
           ∙ ap (last_or []) (map-append (field 2) (filter is_marker lines) (r ∷ [])) ∙ last_or-push [] (map (field 2) (filter is_marker lines)) (field 2 r));
@@ -210,8 +217,8 @@ after_marker_is lines columns r is mark =
 
 -- a line of a column
 
-abbrev state : List ReadColumn → Option ReadColumn → Word → ℕ → ReadColumns
-state ended current word count = record { ended = ended; current = current; word = word; count = count }
+abbrev state : List Word → List ReadColumn → Option ReadColumn → Word → ℕ → ReadColumns
+state names ended current word count = record { names = names; ended = ended; current = current; word = word; count = count }
 
 names_like : (r : Record) (word name : Word) → is_marker r ≡ false → field 0 r ≡ word → names_column name r ≡ bytes_eq name word
 names_like r word name mark same = ap₂ (λ m w. not m && bytes_eq name w) mark same
@@ -271,22 +278,23 @@ some_inside a b e = ap (λ o. unwrap_or o a) e
 abbrev column_by : Word → Word → List Pair → ReadColumn
 column_by name word pairs = record { name = name; marked = bytes_eq word (codes "'INTORG'"); pairs = pairs }
 
-more_is : (lines : List Record) (ended : List ReadColumn) (c : ReadColumn) (word : Word) (count : ℕ) (r : Record)
-    → IsColumns lines (state ended (Some c) word count) → is_marker r ≡ false → bytes_eq (field 0 r) c.name ≡ true
-    → IsColumns (lines ++ r ∷ []) (state ended (Some (with_pairs (entry_pairs r) c)) word (count + length (entry_pairs r)))
-more_is lines ended c word count r is mark here =
+more_is : (lines : List Record) (names : List Word) (ended : List ReadColumn) (c : ReadColumn) (word : Word) (count : ℕ) (r : Record)
+    → IsColumns lines (state names ended (Some c) word count) → is_marker r ≡ false → bytes_eq (field 0 r) c.name ≡ true
+    → IsColumns (lines ++ r ∷ []) (state names ended (Some (with_pairs (entry_pairs r) c)) word (count + length (entry_pairs r)))
+more_is lines names ended c word count r is mark here =
     let same : field 0 r ≡ c.name = equal_words (field 0 r) c.name here in
     let like : (name : Word) → names_column name r ≡ bytes_eq name c.name = λ name. names_like r c.name name mark same in
     let own : names_column c.name r ≡ true = like c.name ∙ same_word c.name c.name refl in
     let knowns : (name : Word) → known lines name ≡ (is_one_of (names_of ended) name || (bytes_eq name c.name || false)) =
     λ name. known_among name lines (names_of (ended ++ c ∷ [])) is.names ∙ in_all ended (Some c) name in
     let whole : is_split_in lines c.name ≡ false = is.goes_on c refl in
-    let stands : known lines c.name ≡ true = knowns c.name ∙ ap₂ (λ a b. a || (b || false)) (sym (is.split c.name) ∙ whole) (same_word c.name c.name refl) in
+    let stands : known lines c.name ≡ true = knowns c.name ∙ ap₂ (λ a b. a || (b || false)) (sym (split_by lines (state names ended (Some c) word count) is c.name) ∙ whole) (same_word c.name c.name refl) in
     let whole_after : is_split_in (lines ++ r ∷ []) c.name ≡ false =
     is_parted-push (names_column c.name) lines r ∙ ap₂ (λ a b. a || (known lines c.name && not b)) whole own ∙ never (known lines c.name) in
     record {
+      listed = is.listed;
       ended = all_stay lines r ended
-          (λ name found. (knowns name ∙ ap (λ b. b || (bytes_eq name c.name || false)) found, like name ∙ apart (is_split_in lines) name c.name (is.split name ∙ found) whole (bytes_eq name c.name) refl)) is.ended;
+          (λ name found. (knowns name ∙ ap (λ b. b || (bytes_eq name c.name || false)) found, like name ∙ apart (is_split_in lines) name c.name (split_by lines (state names ended (Some c) word count) is name ∙ found) whole (bytes_eq name c.name) refl)) is.ended;
       current = ap Some
           (ap (with_pairs (entry_pairs r)) (some_inside c (column_in lines c.name) is.current)
           ∙ ap₂ (λ before pairs. column_by c.name (last_or [] (map (field 2) (filter is_marker before))) pairs) (sym (before_stays lines r c.name stands)) (sym (own_pairs_added lines r c.name mark own)));
@@ -295,7 +303,8 @@ more_is lines ended c word count r is mark here =
       split = λ name.
           is_parted-push (names_column name) lines r
           ∙ ap (λ b. is_split_in lines name || (known lines name && not b)) (like name)
-          ∙ goes_on_bools (is_split_in lines name) (known lines name) (is_one_of (names_of ended) name) (bytes_eq name c.name) (is.split name) (knowns name);
+          ∙ goes_on_bools (is_split_in lines name) (known lines name) (is_one_of (names_of ended) name) (bytes_eq name c.name) (split_by lines (state names ended (Some c) word count) is name) (knowns name)
+          ∙ ap (λ l. is_one_of l name) (sym is.listed);
       goes_on = λ d some. ap (λ x. is_split_in (lines ++ r ∷ []) x.name) (sym (some_inside (with_pairs (entry_pairs r) c) d some)) ∙ whole_after;
       word = is.word ∙ ap (λ l. last_or [] (map (field 2) l)) (sym (no_marker_added lines r mark));
       count = count_added lines r count mark is.count;
@@ -335,10 +344,11 @@ new_is lines columns r is mark other whole =
     let known_all : (name : Word) → known lines name ≡ is_one_of (names_of all) name = λ name. known_among name lines (names_of all) is.names in
     let knowns : (name : Word) → known lines name ≡ (is_one_of (names_of columns.ended) name || is_one_of (names_of (cons_option columns.current [])) name) =
     λ name. known_all name ∙ in_all columns.ended columns.current name in
-    let unknown : known lines new ≡ false = knowns new ∙ ap₂ (λ a b. a || b) (sym (is.split new) ∙ whole) (not_among columns.current new other) in
+    let unknown : known lines new ≡ false = knowns new ∙ ap₂ (λ a b. a || b) (sym (split_by lines columns is new) ∙ whole) (not_among columns.current new other) in
     let whole_after : is_split_in (lines ++ r ∷ []) new ≡ false =
     is_parted-push (names_column new) lines r ∙ ap₂ (λ a b. a || (b && not (names_column new r))) whole unknown in
     record {
+      listed = names_added_behind columns is.listed;
       ended = all_stay lines r all (λ name found. (known_all name ∙ found, like name ∙ apart (known lines) name new (known_all name ∙ found) unknown (bytes_eq name new) refl)) (are_all lines columns is);
       current = ap Some
           (ap₂ (column_by new)
@@ -351,9 +361,10 @@ new_is lines columns r is mark other whole =
       split = λ name.
           is_parted-push (names_column name) lines r
           ∙ ap (λ b. is_split_in lines name || (known lines name && not b)) (like name)
-          ∙ new_bools (is_split_in lines name) (known lines name) (is_one_of (names_of columns.ended) name) (is_one_of (names_of (cons_option columns.current [])) name) (bytes_eq name new) (is.split name) (knowns name)
+          ∙ new_bools (is_split_in lines name) (known lines name) (is_one_of (names_of columns.ended) name) (is_one_of (names_of (cons_option columns.current [])) name) (bytes_eq name new) (split_by lines columns is name) (knowns name)
           (λ e. let same = equal_words name new e in (ap (is_split_in lines) same ∙ whole, ap (known lines) same ∙ unknown))
-          ∙ known_all name;
+          ∙ known_all name
+          ∙ ap (λ l. is_one_of l name) (sym (names_added_behind columns is.listed));
       goes_on = λ d some. ap (λ x. is_split_in (lines ++ r ∷ []) x.name) (sym (some_inside (column_by new columns.word (entry_pairs r)) d some)) ∙ whole_after;
       word = is.word ∙ ap (λ l. last_or [] (map (field 2) l)) (sym (no_marker_added lines r mark));
       count = count_added lines r columns.count mark is.count;
@@ -362,17 +373,17 @@ new_is lines columns r is mark other whole =
 abbrev Next : List Record → Record → ReadColumns → Type 0
 Next lines r columns = IsColumns (lines ++ r ∷ []) columns
 
-going_on : (lines : List Record) (ended : List ReadColumn) (current : Option ReadColumn) (word : Word) (count : ℕ) (r : Record)
-    → IsColumns lines (state ended current word count) → is_marker r ≡ false → is_split_in lines (field 0 r) ≡ false → (b : Bool) → is_current current (field 0 r) ≡ b
-    → Next lines r (cond b (after_more (state ended current word count) (entry_pairs r)) (after_new (state ended current word count) (field 0 r) (entry_pairs r)))
-going_on lines ended current word count r is mark whole false here = new_is lines (state ended current word count) r is mark here whole
-going_on lines ended None word count r is mark whole true here = absurd (true≢false (sym here))
-going_on lines ended (Some c) word count r is mark whole true here = more_is lines ended c word count r is mark here
+going_on : (lines : List Record) (names : List Word) (ended : List ReadColumn) (current : Option ReadColumn) (word : Word) (count : ℕ) (r : Record)
+    → IsColumns lines (state names ended current word count) → is_marker r ≡ false → is_split_in lines (field 0 r) ≡ false → (b : Bool) → is_current current (field 0 r) ≡ b
+    → Next lines r (cond b (after_more (state names ended current word count) (entry_pairs r)) (after_new (state names ended current word count) (field 0 r) (entry_pairs r)))
+going_on lines names ended current word count r is mark whole false here = new_is lines (state names ended current word count) r is mark here whole
+going_on lines names ended None word count r is mark whole true here = absurd (true≢false (sym here))
+going_on lines names ended (Some c) word count r is mark whole true here = more_is lines names ended c word count r is mark here
 
 line_case : (lines : List Record) (columns : ReadColumns) (r : Record) → IsColumns lines columns → (b : Bool) → is_marker r ≡ b → (not b && is_split_in lines (field 0 r)) ≡ false
     → Next lines r (cond b (after_marker columns (field 2 r)) (cond (is_current columns.current (field 0 r)) (after_more columns (entry_pairs r)) (after_new columns (field 0 r) (entry_pairs r))))
 line_case lines columns r is true mark good = after_marker_is lines columns r is mark
-line_case lines columns r is false mark good = going_on lines columns.ended columns.current columns.word columns.count r is mark good (is_current columns.current (field 0 r)) refl
+line_case lines columns r is false mark good = going_on lines columns.names columns.ended columns.current columns.word columns.count r is mark good (is_current columns.current (field 0 r)) refl
 
 pub columns_in_order : (lines : List Record) (columns : ReadColumns) (r : Record) → IsColumns lines columns → (not (is_marker r) && is_split_in lines (field 0 r)) ≡ false → IsColumns (lines ++ r ∷ []) (after_line columns r)
 columns_in_order lines columns r is good = line_case lines columns r is (is_marker r) refl good
@@ -442,7 +453,7 @@ known_by lines columns name is =
 pub no_pairs : (lines : List Record) (columns : ReadColumns) (name : Word) → IsColumns lines columns → is_current columns.current name ≡ false → is_split_in lines name ≡ false
     → flat_map entry_pairs (filter (names_column name) (entry_lines lines)) ≡ []
 no_pairs lines columns name is other whole =
-    let unknown : known lines name ≡ false = known_by lines columns name is ∙ ap₂ (λ a b. a || b) (sym (is.split name) ∙ whole) other in
+    let unknown : known lines name ≡ false = known_by lines columns name is ∙ ap₂ (λ a b. a || b) (sym (split_by lines columns is name) ∙ whole) other in
     ap (flat_map entry_pairs) (none_left (names_column name) (λ q. not (is_marker q)) lines unknown)
 
 or_true : (b : Bool) → (b || true) ≡ true
@@ -454,6 +465,7 @@ known_if_current lines columns name is here =
     known_by lines columns name is ∙ ap (λ b. is_one_of (names_of columns.ended) name || b) here ∙ or_true (is_one_of (names_of columns.ended) name)
 
 pub known_if_ended : (lines : List Record) (columns : ReadColumns) (name : Word) → IsColumns lines columns → is_current columns.current name ≡ false
-    → known lines name ≡ is_one_of (names_of columns.ended) name
+    → known lines name ≡ is_one_of columns.names name
 known_if_ended lines columns name is other =
     known_by lines columns name is ∙ ap (λ b. is_one_of (names_of columns.ended) name || b) other ∙ or_false (is_one_of (names_of columns.ended) name)
+    ∙ ap (λ l. is_one_of l name) (sym is.listed)

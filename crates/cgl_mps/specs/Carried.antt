@@ -20,8 +20,9 @@ pub record ReadColumn : Type 0 where
   pub marked : Bool
   pub pairs : List Pair
 
--- the columns that have ended, the one that goes on, the last marker's word and the count of entries
+-- the columns that have ended with their names, the one that goes on, the last marker's word and the count of entries
 pub record ReadColumns : Type 0 where
+  pub names : List Word
   pub ended : List ReadColumn
   pub current : Option ReadColumn
   pub word : Word
@@ -42,26 +43,38 @@ own_pairs None = []
 own_pairs (Some column) = column.pairs
 
 abbrev pub no_columns : ReadColumns
-no_columns = record { ended = []; current = None; word = []; count = 0 }
+no_columns = record { names = []; ended = []; current = None; word = []; count = 0 }
 
 abbrev pub after_marker : ReadColumns → Word → ReadColumns
-after_marker columns word = record { ended = all_of columns; current = None; word = word; count = columns.count }
+after_marker columns word =
+    record { names = columns.names ++ names_of (cons_option columns.current []); ended = all_of columns; current = None; word = word; count = columns.count }
 
 abbrev pub with_pairs : List Pair → ReadColumn → ReadColumn
 with_pairs pairs column = record { name = column.name; marked = column.marked; pairs = column.pairs ++ pairs }
 
 abbrev pub after_more : ReadColumns → List Pair → ReadColumns
 after_more columns pairs =
-    record { ended = columns.ended; current = option_map (with_pairs pairs) columns.current; word = columns.word; count = columns.count + length pairs }
-
-abbrev pub after_new : ReadColumns → Word → List Pair → ReadColumns
-after_new columns name pairs =
     record {
-      ended = all_of columns;
-      current = Some (record { name = name; marked = bytes_eq columns.word (codes "'INTORG'"); pairs = pairs });
+      names = columns.names;
+      ended = columns.ended;
+      current = option_map (with_pairs pairs) columns.current;
       word = columns.word;
       count = columns.count + length pairs;
     }
+
+-- with a new column that goes on
+abbrev pub begun : ReadColumns → Word → ReadColumns
+begun columns name =
+    record {
+      names = columns.names ++ names_of (cons_option columns.current []);
+      ended = all_of columns;
+      current = Some (record { name = name; marked = bytes_eq columns.word (codes "'INTORG'"); pairs = [] });
+      word = columns.word;
+      count = columns.count;
+    }
+
+abbrev pub after_new : ReadColumns → Word → List Pair → ReadColumns
+after_new columns name pairs = after_more (begun columns name) pairs
 
 -- after one more data line of COLUMNS
 abbrev pub after_line : ReadColumns → Record → ReadColumns
@@ -88,10 +101,11 @@ is_split_in lines name = list_any (λ r. not (names_column name r)) (after_first
 
 -- what these data lines of COLUMNS say, where none of them splits a column
 pub record IsColumns (lines : List Record) (columns : ReadColumns) : Type 0 where
+  pub listed : columns.names ≡ names_of columns.ended
   pub ended : columns.ended ≡ map (column_in lines) (names_of columns.ended)
   pub current : columns.current ≡ option_map (λ c. column_in lines c.name) columns.current
   pub names : names_of (all_of columns) ≡ distinct (map (field 0) (entry_lines lines))
-  pub split : (name : Word) → is_split_in lines name ≡ is_one_of (names_of columns.ended) name
+  pub split : (name : Word) → is_split_in lines name ≡ is_one_of columns.names name
   pub goes_on : (c : ReadColumn) → columns.current ≡ Some c → is_split_in lines c.name ≡ false
   pub word : columns.word ≡ last_or [] (map (field 2) (filter is_marker lines))
   pub count : columns.count ≡ length (flat_map entry_pairs (entry_lines lines))

@@ -1,11 +1,11 @@
 //! The columns of the lines so far.
 
-ghost use Rattle.std.specs.Prelude.{◌≡◌, ◌∷◌, ◌++◌, [], IfOk, OnOk, length, option_map};
+ghost use Rattle.std.specs.Prelude.{◌≡◌, OnOk, length, option_map};
 ghost use Rattle.cgl_text.specs.Text.{is_one_of};
-ghost use Rattle.cgl_mps.specs.Records.{field};
-ghost use Rattle.cgl_mps.specs.Sections.{entry_pairs, is_marker};
+ghost use Rattle.cgl_text.specs.Seen.{words};
+ghost use Rattle.cgl_mps.specs.Sections.{pairs_of};
 ghost use Rattle.cgl_mps.specs.Faults.{names_row};
-ghost use Rattle.cgl_mps.specs.Carried.{after_line, after_marker, after_more, after_new, all_of, is_current, names_of, no_columns, own_pairs, with_pairs};
+ghost use Rattle.cgl_mps.specs.Carried.{after_line, after_marker, after_more, all_of, begun, is_current, no_columns, own_pairs, with_pairs};
 
 use crate::counts::pair_count;
 use crate::pairs::Pairs;
@@ -15,7 +15,6 @@ use cgl_num::Memory;
 use cgl_text::{Names, same_bytes};
 use std::alloc::Global;
 use std::marker::Model;
-use std::mem::replace;
 
 /// A column: its name, whether a marker makes it integer, and its pairs.
 #[derive(Drop)]
@@ -52,21 +51,11 @@ impl<'a> ReadColumn<'a> {
         &self.pairs
     }
 
-    /// The column with the pairs on one more of its lines.
-    fn with_line(self, r: &Record<'a>) -> Result<ReadColumn<'a>, Memory>
-        ensures { IfOk result (λ column. column ≡ with_pairs (entry_pairs r.now) self.entry) }
+    /// Takes in the pairs on one more of its lines.
+    fn push_fields(&mut self, fields: &[&'a [u8]]) -> Result<(), Memory>
+        ensures { OnOk result (self.new ≡ with_pairs (pairs_of (words fields.now)) self.old) }
     {
-        let ReadColumn {
-            name,
-            marked,
-            mut pairs,
-        } = self;
-        pairs.push_fields(entry_fields(r))?;
-        Ok(ReadColumn {
-            name,
-            marked,
-            pairs,
-        })
+        self.pairs.push_fields(fields)
     }
 }
 
@@ -82,14 +71,11 @@ pub(crate) struct ReadColumns<'a> {
 }
 
 impl<'a> Model for ReadColumns<'a> {
-    ghost use Rattle.std.specs.Prelude.{◌≡◌};
-    ghost use Rattle.cgl_mps.specs.Carried.{ReadColumns as Said, names_of};
+    ghost use Rattle.cgl_mps.specs.Carried.{ReadColumns as Said};
 
     ghost Value = { Said };
 
-    ghost view = { λ it. record { ended = it.ended.items; current = it.current; word = it.word.now; count = it.count } };
-
-    ghost invariant = { λ it. it.names ≡ names_of it.ended.items };
+    ghost view = { λ it. record { names = it.names; ended = it.ended.items; current = it.current; word = it.word.now; count = it.count } };
 }
 
 impl<'a> ReadColumns<'a> {
@@ -107,7 +93,7 @@ impl<'a> ReadColumns<'a> {
 
     /// Whether the column of this name has ended.
     pub(crate) fn has_ended(&self, name: &[u8]) -> bool
-        ensures { result ≡ is_one_of (names_of self.now.ended) name.now }
+        ensures { result ≡ is_one_of self.now.names name.now }
     {
         self.names.has(name)
     }
@@ -154,141 +140,62 @@ impl<'a> ReadColumns<'a> {
     }
 }
 
-/// The column behind those that have ended, with its name.
-fn end_column<'a>(
-    names: &mut Names<'a>,
-    ended: &mut Vec<ReadColumn<'a>>,
-    column: ReadColumn<'a>,
-) -> Result<(), Memory>
-    ensures names { OnOk result (names.new ≡ names.old ++ column.entry.name ∷ []) }
-    ensures ended { OnOk result (ended.new.items ≡ ended.old.items ++ column.entry ∷ []) }
-{
-    names.push(column.name())?;
-    let Ok(()) = ended.push(column) else {
-        return Err(Memory);
-    };
-    Ok(())
-}
-
 impl<'a> ReadColumns<'a> {
-    /// These with no column that goes on, behind a marker with this word.
-    fn after_marker(self, word: &'a [u8]) -> Result<ReadColumns<'a>, Memory>
-        ensures { IfOk result (λ columns. columns ≡ after_marker self.entry word.now) }
+    /// Puts the column that goes on behind those that have ended.
+    fn end_current(&mut self) -> Result<(), Memory>
+        ensures { OnOk result (self.new ≡ after_marker self.old self.old.word) }
     {
-        let ReadColumns {
-            mut names,
-            mut ended,
-            current,
-            word: _,
-            count,
-        } = self;
-        match current {
-            Some(column) => {
-                end_column(&mut names, &mut ended, column)?;
-                Ok(ReadColumns {
-                    names,
-                    ended,
-                    current: None,
-                    word,
-                    count,
-                })
-            }
-            None => Ok(ReadColumns {
-                names,
-                ended,
-                current: None,
-                word,
-                count,
-            }),
-        }
-    }
-
-    /// These behind one more line of the column that goes on.
-    fn after_more(self, r: &Record<'a>) -> Result<ReadColumns<'a>, Memory>
-        ensures { IfOk result (λ columns. columns ≡ after_more self.entry (entry_pairs r.now)) }
-    {
-        let ReadColumns {
-            names,
-            ended,
-            current,
-            word,
-            count,
-        } = self;
-        let Some(count) = count.checked_add(pair_count(entry_fields(r))) else {
+        let Some(column) = self.current.take() else {
+            return Ok(());
+        };
+        self.names.push(column.name())?;
+        let Ok(()) = self.ended.push(column) else {
             return Err(Memory);
         };
-        match current {
-            Some(column) => {
-                let column = column.with_line(r)?;
-                Ok(ReadColumns {
-                    names,
-                    ended,
-                    current: Some(column),
-                    word,
-                    count,
-                })
-            }
-            None => Ok(ReadColumns {
-                names,
-                ended,
-                current: None,
-                word,
-                count,
-            }),
-        }
+        Ok(())
     }
 
-    /// These behind the first line of a column.
-    fn after_new(self, alloc: Global, r: &Record<'a>) -> Result<ReadColumns<'a>, Memory>
-        ensures { IfOk result (λ columns.
-            columns ≡ after_new self.entry (field 0 r.now) (entry_pairs r.now)) }
+    /// Begins a column of this name.
+    fn begin(&mut self, alloc: Global, name: &'a [u8]) -> Result<(), Memory>
+        ensures { OnOk result (self.new ≡ begun self.old name.now) }
     {
-        let word = self.word;
-        let ReadColumns {
-            names,
-            ended,
-            current: _,
-            word,
-            count,
-        } = self.after_marker(word)?;
-        let Some(count) = count.checked_add(pair_count(entry_fields(r))) else {
+        self.end_current()?;
+        self.current = Some(ReadColumn {
+            name,
+            marked: same_bytes(self.word, b"'INTORG'"),
+            pairs: Pairs::new(alloc),
+        });
+        Ok(())
+    }
+
+    /// Takes the pairs on one more line into the column that goes on.
+    fn push_fields(&mut self, fields: &[&'a [u8]]) -> Result<(), Memory>
+        ensures { OnOk result (self.new ≡ after_more self.old (pairs_of (words fields.now))) }
+    {
+        let Some(count) = self.count.checked_add(pair_count(fields)) else {
             return Err(Memory);
         };
-        let mut pairs = Pairs::new(alloc);
-        pairs.push_fields(entry_fields(r))?;
-        Ok(ReadColumns {
-            names,
-            ended,
-            current: Some(ReadColumn {
-                name: field(r, 0),
-                marked: same_bytes(word, b"'INTORG'"),
-                pairs,
-            }),
-            word,
-            count,
-        })
+        self.count = count;
+        match &mut self.current {
+            Some(column) => column.push_fields(fields),
+            None => Ok(()),
+        }
     }
 
-    /// These behind one more data line of COLUMNS.
-    fn after(self, alloc: Global, r: &Record<'a>) -> Result<ReadColumns<'a>, Memory>
-        ensures { IfOk result (λ columns. columns ≡ after_line self.entry r.now) }
-    {
-        if is_marker(r) {
-            return self.after_marker(field(r, 2));
-        }
-        if self.is_current(field(r, 0)) {
-            return self.after_more(r);
-        }
-        self.after_new(alloc, r)
-    }
-
-    /// Takes in one more data line of COLUMNS. Want of memory leaves no columns.
+    /// Takes in one more data line of COLUMNS.
     pub(crate) fn add(&mut self, alloc: Global, r: &Record<'a>) -> Result<(), Memory>
         ensures { OnOk result (self.new ≡ after_line self.old r.now) }
     {
-        let before = replace(self, ReadColumns::new(alloc));
-        *self = before.after(alloc, r)?;
-        Ok(())
+        if is_marker(r) {
+            self.end_current()?;
+            self.word = field(r, 2);
+            return Ok(());
+        }
+        if self.is_current(field(r, 0)) {
+            return self.push_fields(entry_fields(r));
+        }
+        self.begin(alloc, field(r, 0))?;
+        self.push_fields(entry_fields(r))
     }
 
     /// Those that have ended and the one that goes on.
