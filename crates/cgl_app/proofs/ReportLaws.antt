@@ -35,6 +35,6 @@ pub wide_added : (wides : List Key) (i : ℕ) (start text one new : List ℕ) �
 wide_added wides i start text one new h so_far wide key =
     let last = get_or wides i (0, 0) in
     let more : flat_map wide_line (take (i + 1) wides) ≡ flat_map wide_line (take i wides) ++ wide_line last =
-        ap (flat_map wide_line) (take_more wides i (0, 0) h) ∙ flat_map-append wide_line (take i wides) (last ∷ []) ∙ ap (λ z. flat_map wide_line (take i wides) ++ z) (append-nil (wide_line last)) in
+    ap (flat_map wide_line) (take_more wides i (0, 0) h) ∙ flat_map-append wide_line (take i wides) (last ∷ []) ∙ ap (λ z. flat_map wide_line (take i wides) ++ z) (append-nil (wide_line last)) in
     key ∙ ap (λ z. z ++ key_text last) (wide ∙ ap (λ z. z ++ codes "wide ") so_far) ∙ append_assoc (start ++ flat_map wide_line (take i wides)) (codes "wide ") (key_text last)
     ∙ append_assoc start (flat_map wide_line (take i wides)) (wide_line last) ∙ ap (λ z. start ++ z) (sym more)

@@ -9,4 +9,4 @@ returns c =
     let kept = c.args.kept.now in
     let name = c.in_ok-add.ensures ∙ ap (λ z. c.args.text.now.items ++ z) c.as_slice.ensures in
     pieces_added c.add_key.result c.args.text.now.items _ _ _ _ _ c.args.name.now (codes " ") (fraction_text kept.candidate.violation) (codes " ") (key_text kept.key)
-        name c.in_ok-add-2.ensures c.in_ok-add_fraction.ensures c.in_ok-add-3.ensures c.add_key.ensures
+    name c.in_ok-add-2.ensures c.in_ok-add_fraction.ensures c.in_ok-add-3.ensures c.add_key.ensures
