@@ -1,14 +1,17 @@
 -- From what each step says to what came of a script that begins with that step.
-use Rattle.std.specs.Result.{result_err}
-use Rattle.std.proofs.Common.{Result, Ok, Err, OnOk, IfErr, ◌≡◌, ◌⊎◌, ℕ, List, take, Option, Some, None, ap, sym, subst, refl, ◌∙◌, inl, inr}
-use Rattle.cgl_outside.specs.Shelf.{Held, with_file}
+use Rattle.std.specs.Result.{IsErrOf, result_err}
+use Rattle.std.proofs.Common.{Result, Ok, Err, OnOk, IfErr, ◌≡◌, ◌⊎◌, ℕ, List, take, Option, Some, None, ap, sym, subst, refl, ◌∙◌, inl, inr, ⊎_elim}
+use Rattle.cgl_outside.specs.declared.errors.ReadError.{ReadError}
+use Rattle.cgl_outside.specs.declared.errors.ReadError.TheVariants.{Fault as BadLine, ReadFault as Unread, Memory as NoMemory}
+use Rattle.cgl_outside.specs.Means.{MeansFault}
+use Rattle.cgl_outside.specs.Shelf.{Held, with_file, Lacks, Rose}
 use Rattle.cgl_outside.specs.Sink.{with_put}
 use Rattle.cgl_app.specs.declared.refusal.File.{File}
 use Rattle.cgl_app.specs.declared.refusal.Refusal.{Refusal}
 use Rattle.cgl_app.specs.declared.refusal.Refusal.TheVariants.{Memory}
 use Rattle.cgl_app.specs.View.{View, view}
 use Rattle.cgl_app.specs.Script.{Script, Writes, Puts, Works, Came, Ends}
-use Rattle.cgl_app.specs.Steps.{IsRead, ReadRefused, WriteRefused, PutRefused}
+use Rattle.cgl_app.specs.Steps.{IsRead, ReadRefused, WriteRefused, PutRefused, read_refusal}
 use Rattle.cgl_app.specs.Commands.{by_meaning, reads_file}
 
 pub same_view : (h h2 : Held) (r r2 w w2 : ℕ) (t t2 : Option (List ℕ)) (f f2 : ℕ) → h ≡ h2 → r ≡ r2 → w ≡ w2 → t ≡ t2 → f ≡ f2
@@ -86,3 +89,12 @@ pub put_came : {T : Type 0} (result : Result T Refusal) (bytes text : List ℕ) 
     → Came (Puts text Ends) (view h r w t f) (view h r w t2 f2) (result_err result)
 put_came (Ok x) bytes text h r w t t2 f f2 e et ef why = put_last bytes text h r w t t2 f f2 e et ef
 put_came (Err refusal) bytes text h r w t t2 f f2 e et ef why = put_refused bytes text Ends h r w t t2 f f2 refusal e why
+
+-- why a file could not be read
+pub unread_by : {A : Type 0} (held : Held) (reads now : ℕ) (file : File) (name : List ℕ) (meaning : List ℕ → Result A (ℕ × ℕ)) (error : ReadError) (refusal : Refusal)
+    → refusal ≡ read_refusal file error → MeansFault held name meaning error → (IsErrOf {T = A} (Err error) Unread → Rose reads now ⊎ Lacks held name)
+    → IsErrOf {T = A} (Err error) Unread ⊎ (now ≡ reads) → (Lacks held name → now ≡ reads) → ReadRefused held reads now file name meaning refusal
+unread_by held reads now file name meaning (BadLine line kind) refusal is fault rose same excused =
+    inr (inr (fault.text, (line, kind), fault.shows, fault.is, is, ⊎_elim (λ e. absurd (cc)) (λ e. e) same))
+unread_by held reads now file name meaning Unread refusal is fault rose same excused = inl (is, rose refl, excused)
+unread_by held reads now file name meaning NoMemory refusal is fault rose same excused = inr (inl (is, ⊎_elim (λ e. absurd (cc)) (λ e. e) same))

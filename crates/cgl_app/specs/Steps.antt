@@ -1,5 +1,7 @@
 -- Why each step of a command may be refused.
 use Rattle.std.specs.Prelude.{◌≡◌, ℕ, List, take, Option, ◌⊎◌, Result, Ok, Err}
+use Rattle.cgl_outside.specs.declared.errors.ReadError.{ReadError}
+use Rattle.cgl_outside.specs.declared.errors.ReadError.TheVariants.{Fault as BadLine, ReadFault as Unread, Memory as NoMemory}
 use Rattle.cgl_outside.specs.Shelf.{Held, with_file, Lacks, Rose}
 use Rattle.cgl_outside.specs.Sink.{with_put}
 use Rattle.cgl_app.specs.declared.refusal.File.{File}
@@ -13,6 +15,12 @@ pub record IsRead {A : Type 0} (held : Held) (name : List ℕ) (meaning : List �
   pub text : List ℕ
   pub shows : Shows held name text
   pub is : meaning text ≡ Ok a
+
+-- what refuses the command where this file could not be read
+abbrev pub read_refusal : File → ReadError → Refusal
+read_refusal file (BadLine line kind) = Input file line kind
+read_refusal file Unread = ReadFault file
+read_refusal file NoMemory = Memory
 
 -- the file could not be read, memory was refused, or the file's bytes have a fault
 abbrev pub ReadRefused : {A : Type 0} → Held → ℕ → ℕ → File → List ℕ → (List ℕ → Result A (ℕ × ℕ)) → Refusal → Type 0

@@ -4,12 +4,23 @@ ghost use Rattle.cgl_mps.specs.DeckResult.{deck_result};
 ghost use Rattle.cgl_where.specs.PointRead.{point_result};
 ghost use Rattle.cgl_outside.specs.Shelf.{with_file};
 ghost use Rattle.cgl_outside.specs.Sink.{with_put};
-ghost use Rattle.cgl_app.specs.Steps.{IsRead, ReadRefused, WriteRefused, PutRefused};
+ghost use Rattle.cgl_app.specs.Steps.{IsRead, ReadRefused, read_refusal, WriteRefused, PutRefused};
 
 use crate::{File, Refusal};
 use cgl_model::{Model, Point};
 use cgl_outside::{ReadError, Shelf, Sink, write_whole};
 use std::alloc::Global;
+
+/// What refuses the command where the file could not be read.
+fn refusal_of(error: ReadError, file: File) -> Refusal
+    ensures { result ≡ read_refusal file error }
+{
+    match error {
+        ReadError::Memory => Refusal::Memory,
+        ReadError::ReadFault => Refusal::ReadFault(file),
+        ReadError::Fault { line, kind } => Refusal::Input { file, line, kind },
+    }
+}
 
 /// The model that a deck's file holds.
 pub fn read_model<S: Shelf>(alloc: Global, shelf: &mut S, name: &str) -> Result<Model, Refusal>
@@ -22,13 +33,7 @@ pub fn read_model<S: Shelf>(alloc: Global, shelf: &mut S, name: &str) -> Result<
 {
     match cgl_mps::read_deck(alloc, shelf, name) {
         Ok(model) => Ok(model),
-        Err(ReadError::Memory) => Err(Refusal::Memory),
-        Err(ReadError::ReadFault) => Err(Refusal::ReadFault(File::Model)),
-        Err(ReadError::Fault { line, kind }) => Err(Refusal::Input {
-            file: File::Model,
-            line,
-            kind,
-        }),
+        Err(error) => Err(refusal_of(error, File::Model)),
     }
 }
 
@@ -48,13 +53,7 @@ pub fn read_point<S: Shelf>(
 {
     match cgl_where::read_point(alloc, shelf, name, model) {
         Ok(point) => Ok(point),
-        Err(ReadError::Memory) => Err(Refusal::Memory),
-        Err(ReadError::ReadFault) => Err(Refusal::ReadFault(File::Point)),
-        Err(ReadError::Fault { line, kind }) => Err(Refusal::Input {
-            file: File::Point,
-            line,
-            kind,
-        }),
+        Err(error) => Err(refusal_of(error, File::Point)),
     }
 }
 

@@ -1,4 +1,4 @@
-use Rattle.std.proofs.Common.{refl, inl, inr, ⊎_elim}
+use Rattle.cgl_app.proofs.StepLaws.{unread_by}
 use Rattle.cgl_app.proofs.steps.read_point.Goals as goal
 
 pub returns-in-Ok-clause-point : goal.returns-in-Ok-clause-point
@@ -6,17 +6,7 @@ returns-in-Ok-clause-point g c =
     let says = c.in-Ok.ensures.point in
     record { text = says.text; shows = says.shows; is = says.is }
 
-pub returns-in-Err-Memory-clause-refused : goal.returns-in-Err-Memory-clause-refused
-returns-in-Err-Memory-clause-refused g c =
-    let says = rw c.in-Err-Memory.field-0-is at c.in-Err-Memory.ensures in
-    inr (inl (refl, ⊎_elim (λ e. absurd (cc)) (λ e. e) says.reads))
-
-pub returns-in-Err-ReadFault-clause-refused : goal.returns-in-Err-ReadFault-clause-refused
-returns-in-Err-ReadFault-clause-refused g c =
-    let says = rw c.in-Err-ReadFault.field-0-is at c.in-Err-ReadFault.ensures in
-    inl (refl, says.read_fault refl, says.excused)
-
-pub returns-in-Err-Fault-clause-refused : goal.returns-in-Err-Fault-clause-refused
-returns-in-Err-Fault-clause-refused g c =
-    let says = rw c.in-Err-Fault.field-0-is at c.in-Err-Fault.ensures in
-    inr (inr (says.fault.text, (c.in-Err-Fault.line, c.in-Err-Fault.kind), says.fault.shows, says.fault.is, refl, ⊎_elim (λ e. absurd (cc)) (λ e. e) says.reads))
+pub returns-in-Err-clause-refused : goal.returns-in-Err-clause-refused
+returns-in-Err-clause-refused g c =
+    let says = c.in-Err.ensures in
+    unread_by _ _ _ _ _ _ c.in-Err.error _ c.refusal_of.ensures says.fault says.read_fault says.reads says.excused
