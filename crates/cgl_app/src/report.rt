@@ -24,6 +24,14 @@ fn add_number(text: &mut Vec<u8>, number: u64) -> Result<(), Memory>
     add(text, Buffer::new().format(number).as_bytes())
 }
 
+/// Adds a number behind its word.
+fn add_counted(text: &mut Vec<u8>, word: &[u8], number: u64) -> Result<(), Memory>
+    ensures { OnOk result (text.new.items ≡ text.old.items ++ word.now ++ decimal number) }
+{
+    add(text, word)?;
+    add_number(text, number)
+}
+
 fn add_fraction(text: &mut Vec<u8>, fraction: Frac) -> Result<(), Memory>
     ensures { OnOk result (text.new.items ≡ text.old.items ++ fraction_text fraction) }
 {
@@ -54,8 +62,7 @@ fn add_key(text: &mut Vec<u8>, key: (u32, u64)) -> Result<(), Memory>
     ensures { OnOk result (text.new.items ≡ text.old.items ++ key_text key) }
 {
     add(text, generator_word(key.0))?;
-    add(text, b" ")?;
-    add_number(text, key.1)?;
+    add_counted(text, b" ", key.1)?;
     add(text, b"\n")
 }
 
@@ -97,10 +104,8 @@ fn add_wides(text: &mut Vec<u8>, wides: &[(u32, u64)]) -> Result<(), Memory>
 fn add_head(text: &mut Vec<u8>, cuts: usize, wides: usize) -> Result<(), Memory>
     ensures { OnOk result (text.new.items ≡ text.old.items ++ codes "cuts " ++ decimal cuts ++ codes " wide " ++ decimal wides ++ codes "\n") }
 {
-    add(text, b"cuts ")?;
-    add_number(text, cuts as u64)?;
-    add(text, b" wide ")?;
-    add_number(text, wides as u64)?;
+    add_counted(text, b"cuts ", cuts as u64)?;
+    add_counted(text, b" wide ", wides as u64)?;
     add(text, b"\n")
 }
 
@@ -139,12 +144,9 @@ fn add_counts(text: &mut Vec<u8>, rows: usize, cols: usize, entries: u64) -> Res
     ensures { OnOk result (text.new.items ≡ text.old.items ++ codes "rows " ++ decimal rows ++ codes " cols " ++ decimal cols
         ++ codes " entries " ++ decimal entries ++ codes "\n") }
 {
-    add(text, b"rows ")?;
-    add_number(text, rows as u64)?;
-    add(text, b" cols ")?;
-    add_number(text, cols as u64)?;
-    add(text, b" entries ")?;
-    add_number(text, entries)?;
+    add_counted(text, b"rows ", rows as u64)?;
+    add_counted(text, b" cols ", cols as u64)?;
+    add_counted(text, b" entries ", entries)?;
     add(text, b"\n")
 }
 
