@@ -1,5 +1,5 @@
 -- Sums of lengths that stay at the end of 64 bits.
-use Rattle.std.proofs.Common.{◌≡◌, List, ℕ, ◌+◌, ◌-◌, ◌^◌, [], ◌∷◌, ◌++◌, length, length-append, min, ap, ap₂, sym, ◌∙◌, arith, codes, cond, flat_map, int_lt, pos, not, ◌&&◌, Bool, false, refl, Option, None, Some}
+use Rattle.std.proofs.Common.{◌≡◌, List, ℕ, ◌+◌, ◌-◌, ◌^◌, [], ◌∷◌, ◌++◌, length, length-append, min, ap, ap₂, sym, ◌∙◌, arith, codes, cond, flat_map, int_lt, pos, not, ◌&&◌, Bool, false, refl, None, Some}
 use Rattle.cgl_num.specs.Decimal.{Decimal, decimal_text}
 use Rattle.cgl_num.specs.NumberText.{Word}
 use Rattle.cgl_model.specs.declared.mip.Column.{Column}

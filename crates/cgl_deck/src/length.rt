@@ -7,6 +7,20 @@ use crate::write::{is_same, is_upper_alone, is_zero, name_of_row};
 use cgl_model::{Column, Model, Row};
 use cgl_num::Dec;
 
+// What a line has beside its words of any length.
+
+/// Three blanks and LF.
+const NUMBER_LINE: u64 = 4;
+
+/// Two blanks, the letter of the kind and LF.
+const ROW_LINE: u64 = 4;
+
+/// Three blanks, BND and LF.
+const MARK_LINE: u64 = 7;
+
+/// Four blanks, BND and LF.
+const VALUE_LINE: u64 = 8;
+
 // Lengths stay at the end of u64 once they reach it.
 
 /// The length of a number's digits, sign and point.
@@ -23,7 +37,7 @@ fn number_line_len(first: &[u8], second: &[u8], number: Dec) -> u64
     ensures { result ≡ most (length (data_line (first.now ∷ second.now ∷ decimal_text number ∷ []))) }
 {
     let words = (first.len() as u64).saturating_add(second.len() as u64);
-    words.saturating_add(digits_len(number) + 4)
+    words.saturating_add(digits_len(number) + NUMBER_LINE)
 }
 
 fn name_len(name: &[u8]) -> u64
@@ -45,7 +59,7 @@ fn sense_len(maximise: bool) -> u64
 fn row_len(row: &Row) -> u64
     ensures { result ≡ most (length (row_text row.now)) }
 {
-    (row.name.as_slice().len() as u64).saturating_add(4)
+    (row.name.as_slice().len() as u64).saturating_add(ROW_LINE)
 }
 
 fn rows_len(rows: &[Row]) -> u64
@@ -147,14 +161,14 @@ fn mark_len(kind: &[u8], name: &[u8]) -> u64
 {
     (kind.len() as u64)
         .saturating_add(name.len() as u64)
-        .saturating_add(7)
+        .saturating_add(MARK_LINE)
 }
 
 fn value_len(kind: &[u8], name: &[u8], value: Dec) -> u64
     ensures { result ≡ most (length (bound_line kind.now name.now (decimal_text value ∷ []))) }
 {
     let words = (kind.len() as u64).saturating_add(name.len() as u64);
-    words.saturating_add(digits_len(value) + 8)
+    words.saturating_add(digits_len(value) + VALUE_LINE)
 }
 
 fn both_len(name: &[u8], lo: Dec, up: Dec) -> u64

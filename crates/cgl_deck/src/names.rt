@@ -41,9 +41,16 @@ fn is_row_name(rows: &[Row], name: &[u8]) -> bool
     false
 }
 
-fn add_unused(names: &mut Seq<Name>, model: &Model, name: Name) -> Result<(), Memory>
-    ensures { OnOk result (names.new ≡ names.old ++ filter (is_unused model.now) (name ∷ [])) }
+/// Adds the cut's name of this number where no row has it.
+fn add_unused(
+    alloc: Global,
+    names: &mut Seq<Name>,
+    model: &Model,
+    number: u64,
+) -> Result<(), Memory>
+    ensures { OnOk result (names.new ≡ names.old ++ filter (is_unused model.now) (cut_name number ∷ [])) }
 {
+    let name = cut_name(alloc, number)?;
     if is_row_name(model.rows.as_slice(), name.as_slice()) {
         return Ok(());
     }
@@ -65,8 +72,7 @@ pub fn cut_names(alloc: Global, model: &Model, n: u32) -> Result<Seq<Name>, Memo
         if names.as_slice().len() == n as usize {
             break;
         }
-        let name = cut_name(alloc, number + 1)?;
-        add_unused(&mut names, model, name)?;
+        add_unused(alloc, &mut names, model, number + 1)?;
     }
     Ok(names)
 }
