@@ -151,20 +151,6 @@ fn longer_entries(
     Ok(longer)
 }
 
-/// A copy of a column with more entries.
-fn longer_column(alloc: Global, column: &Column, more: &[(u32, Dec)]) -> Result<Column, Memory>
-    ensures { IfOk result (λ copy. copy ≡ record column.now { entries = column.now.entries ++ more.now }) }
-{
-    let entries = longer_entries(alloc, column.entries.as_slice(), more)?;
-    Ok(Column {
-        name: copied_name(alloc, column.name.as_slice())?,
-        integer: column.integer,
-        lo: column.lo,
-        up: column.up,
-        entries,
-    })
-}
-
 // ---- rows
 
 fn decimal(n: i128) -> Dec
@@ -302,6 +288,7 @@ fn lists_of_cuts(
     Ok(lists)
 }
 
+/// Adds a copy of a column with more entries.
 fn add_longer(
     alloc: Global,
     columns: &mut Seq<Column>,
@@ -310,7 +297,15 @@ fn add_longer(
 ) -> Result<(), Memory>
     ensures { OnOk result (columns.new ≡ columns.old ++ record column.now { entries = column.now.entries ++ more.now } ∷ []) }
 {
-    columns.push(longer_column(alloc, column, more)?)
+    let entries = longer_entries(alloc, column.entries.as_slice(), more)?;
+    let name = copied_name(alloc, column.name.as_slice())?;
+    columns.push(Column {
+        name,
+        integer: column.integer,
+        lo: column.lo,
+        up: column.up,
+        entries,
+    })
 }
 
 /// Copies of the columns, each with its list behind its entries.
@@ -350,23 +345,7 @@ fn longer_columns(
 
 // ---- all
 
-/// The model with other rows and columns.
-fn with_parts(
-    alloc: Global,
-    model: &Model,
-    rows: Seq<Row>,
-    cols: Seq<Column>,
-) -> Result<Model, Memory>
-    ensures { IfOk result (λ n. n ≡ record model.now { rows = rows; cols = cols }) }
-{
-    Ok(Model {
-        name: copied_name(alloc, model.name.as_slice())?,
-        maximise: model.maximise,
-        rows,
-        cols,
-    })
-}
-
+/// The model with the rows and columns of its extension.
 fn extend(alloc: Global, model: &Model, cuts: &[Ineq]) -> Result<Model, Memory>
     requires known { IsTrue (list_all (is_known model.now) cuts.now) }
     requires decimal { IsTrue (list_all is_decimal cuts.now) }
@@ -375,9 +354,15 @@ fn extend(alloc: Global, model: &Model, cuts: &[Ineq]) -> Result<Model, Memory>
     ensures rising { OnOk result (AreRising cuts.now) }
 {
     let first = model.rows.as_slice().len() as u32;
+    let name = copied_name(alloc, model.name.as_slice())?;
     let rows = named_rows(alloc, model, cuts)?;
     let cols = longer_columns(alloc, model, first, cuts)?;
-    with_parts(alloc, model, rows, cols)
+    Ok(Model {
+        name,
+        maximise: model.maximise,
+        rows,
+        cols,
+    })
 }
 
 /// The model with a G row behind its rows for each cut, in the order of the cuts. The rows have the names that
