@@ -14,7 +14,7 @@ pub(crate) fn is_zero(number: Dec) -> bool
     number.m() == 0
 }
 
-/// Whether of two finite bounds the upper one alone is told.
+/// Whether of two finite bounds the upper one alone is written.
 pub(crate) fn is_upper_alone(lo: Dec, up: Dec) -> bool
     ensures { result ≡ (is_zero_decimal lo && not (int_lt up.m (pos 0))) }
 {
