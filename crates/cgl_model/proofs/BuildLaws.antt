@@ -1,13 +1,14 @@
 -- The steps by which forms are built.
-use Rattle.std.proofs.Common.{◌≡◌, ℕ, zero, suc, ℤ, pos, negsuc, ◌+◌, ◌*◌, ◌^◌, ◌≤◌, ◌<◌, max, ap, refl, sym, ◌∙◌, subst, arith, lit<, List, [], ◌∷◌, ◌++◌, ◌-◌, map, length, take, drop, get_or, true, false, to_z, of_z}
-use Rattle.std.specs.Prelude.{◌*ℤ◌, ◌-ℤ◌, unsigned_abs, FitsSigned, Option, Some, None, option_to_list}
+use Rattle.std.proofs.Common.{◌≡◌, ℕ, zero, suc, ℤ, pos, negsuc, ◌+◌, ◌*◌, ◌/◌, ◌^◌, ◌≤◌, ◌<◌, max, ap, refl, sym, ◌∙◌, subst, arith, lit<, List, [], ◌∷◌, ◌++◌, ◌-◌, map, length, take, drop, get_or, true, false, to_z, of_z}
+use Rattle.std.specs.Prelude.{◌*ℤ◌, ◌-ℤ◌, ◌≤ℤ◌, ◌<ℤ◌, int_div, unsigned_abs, FitsSigned, Option, Some, None, option_to_list}
 use Rattle.std.specs.Int.{w128}
 use Rattle.std.specs.Int.Signed.{lt_z}
 use Rattle.std.proofs.Math.IntN.{neg_ℤ, negsuc-*ℤ-pos}
-use Rattle.std.proofs.Math.Nat.{pow-le-pow_right}
+use Rattle.std.proofs.Math.Nat.{div-le_self, pow-le-pow_right}
 use Rattle.std.proofs.lemmas.Int.{ints, fits_signed_from_abs, unsigned_abs-mul}
 use Rattle.std.proofs.lemmas.List.{map_more, take_all}
 use Rattle.std.proofs.lemmas.Bool.{le-leb, leb-false, lt-leb, or_from, or_parts, or_left, or_right}
+use Rattle.std.proofs.lemmas.Bool.Decides.{nat_tests}
 use Rattle.std.specs.List.{filter, list_any}
 use Rattle.std.specs.Option.{IfSome}
 use Rattle.std.proofs.lemmas.List.Folds.{list_any-append}
@@ -79,7 +80,7 @@ plus_narrow z t e h = omega (arith, ints, e, h)
 
 -- ---- scaled coefficients
 
-wide_number : (z : ℤ) → 2 ^ 100 ≤ unsigned_abs z → is_wide_number z ≡ true
+pub wide_number : (z : ℤ) → 2 ^ 100 ≤ unsigned_abs z → is_wide_number z ≡ true
 wide_number z h = le-leb (2 ^ 100) (unsigned_abs z) h
 
 pub wide_at : (k : ℕ) (entries : List (ℕ × Decimal)) (i : ℕ) (e : ℕ × Decimal) → i < length entries → e ≡ get_or entries i e → 2 ^ 100 ≤ unsigned_abs (scaled k e.1)
@@ -192,6 +193,26 @@ drop_all (t ∷ terms) = drop_all terms
 
 pub gcd_start : (terms : List Term) (rest : List ℤ) (d : ℤ) → d ≡ pos (gcd_of rest) → d ≡ pos (gcd_of (map (λ t. t.1) (drop (length terms) terms) ++ rest))
 gcd_start terms rest d e = e ∙ sym (ap (λ xs. pos (gcd_of (map (λ t. t.1) xs ++ rest))) (drop_all terms))
+
+-- ---- divided numbers
+
+pub above_zero : (d : ℤ) → pos 0 ≤ℤ d → (of_z w128 d ≡ 0 → ⊥) → pos 0 <ℤ d
+above_zero (pos zero) h none = absurd (none refl)
+above_zero (pos (suc n)) h none = omega (arith, ints)
+above_zero (negsuc n) h none = absurd (omega (arith, ints, h))
+
+pub divided_is : (a d : ℤ) → pos 0 <ℤ d → int_div a d ≡ divided (unsigned_abs d) a
+divided_is a (pos zero) h = absurd (omega (arith, ints, h))
+divided_is a (pos (suc n)) h = grind (arith, nat_tests)
+divided_is a (negsuc n) h = absurd (omega (arith, ints, h))
+
+pub divided_by_zero : (a d : ℤ) → d ≡ pos 0 → a ≡ divided (unsigned_abs d) a
+divided_by_zero a d e = sym (ap (λ x. divided (unsigned_abs x) a) e)
+
+pub quotient_narrow : (a d : ℤ) → pos 0 <ℤ d → unsigned_abs a < 2 ^ 100 → unsigned_abs (int_div a d) < 2 ^ 100
+quotient_narrow (pos a) (pos d) h k = omega (arith, k, div-le_self a d)
+quotient_narrow (negsuc a) (pos d) h k = minus_narrow _ (suc a / d) refl (omega (arith, k, div-le_self (suc a) d))
+quotient_narrow a (negsuc d) h k = absurd (omega (arith, ints, h))
 
 -- ---- divided coefficients
 

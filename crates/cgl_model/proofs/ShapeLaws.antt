@@ -1,7 +1,7 @@
 -- The steps by which a row's shape is found.
-use Rattle.std.proofs.Common.{◌≡◌, ℕ, ℤ, ◌≤◌, ap, refl, sym, ◌∙◌, List, [], ◌∷◌, ◌++◌, true, false, Bool}
-use Rattle.std.specs.Prelude.{Option, Some, None, option_to_list}
-use Rattle.std.specs.List.{All, AllByRecursion, list_any}
+use Rattle.std.proofs.Common.{◌≡◌, ℕ, ℤ, ◌≤◌, ap, refl, sym, subst, ◌∙◌, List, [], ◌∷◌, ◌++◌, true, false, Bool, map}
+use Rattle.std.specs.Prelude.{Option, Some, None, option_map, option_to_list}
+use Rattle.std.specs.List.{All, AllByRecursion, filter, list_any}
 use Rattle.std.specs.Option.{IfSome}
 use Rattle.std.proofs.lemmas.List.Folds.{list_any-append}
 use Rattle.std.proofs.lemmas.List.Elements.{All-from_recursion}
@@ -15,7 +15,8 @@ use Rattle.cgl_model.specs.declared.row_numbers.RowNumbers.{RowNumbers}
 use Rattle.cgl_model.specs.declared.integer_forms.RowForm.{RowForm}
 use Rattle.cgl_model.specs.declared.integer_forms.RowShape.TheVariants.{Free, Wide, Form}
 use Rattle.cgl_model.specs.Ends.{lower_end, upper_end}
-use Rattle.cgl_model.specs.IntegerForm.{divided_row, form_of, is_wide_number, is_wide_row, row_ends, row_numbers, row_places, row_shape, row_shape_of, scaled_row, shape_of_numbers}
+use Rattle.cgl_model.specs.Inequality.{Term}
+use Rattle.cgl_model.specs.IntegerForm.{divided, divided_row, form_of, is_nonzero_term, is_wide_number, is_wide_row, row_ends, row_numbers, row_places, row_shape, row_shape_of, scaled_row, shape_of_numbers}
 use Rattle.cgl_model.proofs.RowLaws.{ArePlaced, left_part, most_at, numbers_of, right_part}
 
 placed_entries : (k : ℕ) (entries : List (ℕ × Decimal)) → ArePlaced k (numbers_of entries) → AllByRecursion (λ e. places e.1 ≤ k) entries
@@ -85,3 +86,12 @@ wide_lower kind n h = wide_ends kind n (list_any-append is_wide_number (option_t
 
 pub wide_upper : (kind : RowKind) (n : RowNumbers) → list_any is_wide_number (option_to_list (upper_end kind n.rhs n.range)) ≡ true → Wide ≡ shape_of_numbers kind n
 wide_upper kind n h = wide_ends kind n (list_any-append is_wide_number (option_to_list (lower_end kind n.rhs n.range)) (option_to_list (upper_end kind n.rhs n.range)) ∙ or_right _ _ h)
+
+-- the parts of a form as they are computed
+pub form_made : (kind : RowKind) (n : RowNumbers) (g h : ℕ) (items coeffs : List Term) (rhs : ℤ) (range lo up : Option ℤ) → g ≡ h → items ≡ n.coeffs
+    → coeffs ≡ filter is_nonzero_term (map (λ t. (t.0, divided g t.1)) items) → rhs ≡ divided g n.rhs → range ≡ option_map (divided g) n.range
+    → lo ≡ lower_end kind rhs range → up ≡ upper_end kind rhs range → record { coeffs = coeffs; rhs = rhs; lo = lo; up = up } ≡ form_of kind (divided_row h n)
+form_made kind n g h items coeffs rhs range lo up same read terms right width lower upper =
+    let f : RowForm = record { coeffs = coeffs; rhs = rhs; lo = lo; up = up } in
+    let F : ℕ → Type 0 = λ k. f ≡ form_of kind (divided_row k n) in
+    subst F same cc
