@@ -1,4 +1,4 @@
-use Rattle.std.proofs.Common.{rules, sym, ap, ◌∙◌, subst, ◌≤◌, ◌≡◌, ◌^◌, true, false, to_z, of_z}
+use Rattle.std.proofs.Common.{rules, sym, ap, ◌∙◌, subst, ◌≤◌, ◌≡◌, ◌^◌, to_z, of_z}
 use Rattle.std.specs.Prelude.{unsigned_abs, pos}
 use Rattle.std.specs.Int.{w128, w16}
 use Rattle.std.specs.Int.Signed.{lt_z}
