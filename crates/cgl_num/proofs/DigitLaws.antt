@@ -17,6 +17,9 @@ digits-low a (d ∷ digits) =
     let e : a * 10 ^ suc (length digits) ≡ a * (10 ^ length digits * 10) = ap (λ q. a * q) (pow-suc 10 (length digits)) in
     omega (arith, e, low_step a (d - 48) (10 ^ length digits) (digits_from (10 * a + (d - 48)) digits) (digits-low (10 * a + (d - 48)) digits))
 
+pub digit-least : (d : ℕ) → is_digit d ≡ true → 48 ≤ d
+digit-least d yes_digit = grind (arith, nat_tests)
+
 pub digit-small : (d : ℕ) → is_digit d ≡ true → d - 48 < 10
 digit-small d yes_digit = grind (arith, nat_tests)
 

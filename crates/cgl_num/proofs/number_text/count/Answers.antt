@@ -1,6 +1,7 @@
-use Rattle.std.proofs.Common.{rules, arith, ◌≡◌, subst, true, get_or, refl, sym, ◌∙◌}
+use Rattle.std.proofs.Common.{rules, arith, ◌≡◌, subst, true, get_or, refl, sym, ◌∙◌, append-nil}
 use Rattle.cgl_num.specs.NumberText.{Word, IsCounted, is_digit}
 use Rattle.cgl_num.proofs.CountLaws.{not_all, one_more, whole_counted}
+use Rattle.cgl_num.proofs.DigitLaws.{digit-least, digit-small}
 use Rattle.cgl_num.proofs.NumberLaws.{grown}
 use Rattle.cgl_num.proofs.number_text.count.Goals as goal
 
@@ -17,7 +18,13 @@ digits-preserved c =
     }
 
 pub digits-init : goal.digits-init
-digits-init c = search rules
+digits-init c =
+    let start = c.args.start in
+    record {
+      counted = (λ before is. subst (λ ds. IsCounted ds start.value start.zeros start.size) (sym (append-nil before)) is);
+      zeros = omega arith;
+      size = omega arith;
+    }
 
 pub bounds-text-byte-index : goal.bounds-text-byte-index
 bounds-text-byte-index c = omega arith
@@ -35,10 +42,10 @@ pub returns-then-not-is_digit-clause-room : goal.returns-then-not-is_digit-claus
 returns-then-not-is_digit-clause-room c = tt
 
 pub overflow_sub-byte : goal.overflow_sub-byte
-overflow_sub-byte c = search rules
+overflow_sub-byte c = digit-least _ (sym c.is_digit.ensures ∙ c.if-not-is_digit.false)
 
 pub push-counted-requires-clause-digit : goal.push-counted-requires-clause-digit
-push-counted-requires-clause-digit c = search rules
+push-counted-requires-clause-digit c = digit-small _ (sym c.is_digit.ensures ∙ c.if-not-is_digit.false)
 
 pub push-counted-requires-clause-zeros : goal.push-counted-requires-clause-zeros
 push-counted-requires-clause-zeros c = omega arith
