@@ -1,8 +1,10 @@
 -- Laws of texts of proofs.
-use Rattle.std.proofs.Common.{◌≡◌, ℕ, List, [], ◌∷◌, ◌++◌, map, flat_map, refl, sym, ap, ◌∙◌, ◌+◌, ◌<◌, length, take, get_or, codes}
+use Rattle.std.proofs.Common.{◌≡◌, ℕ, List, [], ◌∷◌, ◌++◌, map, flat_map, refl, sym, ap, ◌∙◌, subst, ◌+◌, ◌<◌, length, take, get_or, codes}
 use Rattle.std.specs.Fmt.{decimal}
 use Rattle.cgl_model.specs.declared.linear.Ineq.{Ineq}
 use Rattle.std.proofs.lemmas.List.{append_assoc, append-nil, take_more}
+use Rattle.cgl_prooftext.specs.declared.field.Builder.{Builder}
+use Rattle.cgl_prooftext.specs.Growth.{Grows}
 use Rattle.cgl_derive.specs.declared.step.Lin.{Lin}
 use Rattle.cgl_derive.specs.declared.step.Round.{Round}
 use Rattle.cgl_derive.specs.declared.step.Step.{Step, out-Step, out-roll-Step}
@@ -25,32 +27,9 @@ pub fields_append : (a b : List Text) → fields_text (a ++ b) ≡ fields_text a
 unfolding fields_text
 fields_append a b = flat_map_append (λ field. 32 ∷ field) a b
 
-pub fields_then : (t : Text) (a b : List Text) → (t ++ fields_text a) ++ fields_text b ≡ t ++ fields_text (a ++ b)
-fields_then t a b = append_assoc t (fields_text a) (fields_text b) ∙ ap (λ z. t ++ z) (sym (fields_append a b))
-
-pub fields_join : (t a b : Text) (x y : List Text) → a ≡ t ++ fields_text x → b ≡ a ++ fields_text y → b ≡ t ++ fields_text (x ++ y)
-fields_join t a b x y e f = f ∙ ap (λ z. z ++ fields_text y) e ∙ fields_then t x y
-
 pub field_one : (x : Text) → fields_text (x ∷ []) ≡ 32 ∷ x
 unfolding fields_text
 field_one x = append-nil (32 ∷ x)
-
-pub nothing_yet : (t : Text) → t ≡ t ++ fields_text []
-unfolding fields_text
-nothing_yet t = sym (append-nil t)
-
-pub joined : (t a b x y : Text) → a ≡ t ++ x → b ≡ a ++ y → b ≡ t ++ (x ++ y)
-joined t a b x y e f = f ∙ ap (λ z. z ++ y) e ∙ append_assoc t x y
-
--- a field in pieces
-pub numbered_is : (t a b c d letter digits end : Text) → a ≡ t ++ (32 ∷ []) → b ≡ a ++ letter → c ≡ b ++ digits → d ≡ c ++ end → d ≡ t ++ fields_text ((letter ++ digits ++ end) ∷ [])
-numbered_is t a b c d letter digits end ea eb ec ed =
-    joined t a d (32 ∷ []) ((letter ++ digits) ++ end) ea (joined a c d (letter ++ digits) end (joined a b c letter digits eb ec) ed)
-    ∙ ap (λ z. t ++ z) (sym (field_one ((letter ++ digits) ++ end)))
-
-pub line_is : (t a b c word : Text) (fields : List Text) → a ≡ t ++ word → b ≡ a ++ fields_text fields → c ≡ b ++ (10 ∷ []) → c ≡ t ++ line word fields
-unfolding line
-line_is t a b c word fields ea eb ec = joined t b c (word ++ fields_text fields) (10 ∷ []) (joined t a b word (fields_text fields) ea eb) ec
 
 pub line_word : (word : Text) → line word [] ≡ word ++ 10 ∷ []
 unfolding line fields_text
@@ -99,28 +78,63 @@ step_round s round is = step_text_is s ∙ ap layer_text (ap out-Step is ∙ ap 
 pub step_split : (s : Step) (split : Split) → s ≡ variant.Split split → step_text s ≡ split_text split
 step_split s split is = step_text_is s ∙ ap layer_text (ap out-Step is ∙ ap out-Step (sym (rolls-Split split)) ∙ out-roll-Step _)
 
-pub split_is : (t a b c d e : Text) (s : Split) → a ≡ t ++ split_line (out-Split s).p (out-Split s).p0 (out-Split s).claim → b ≡ a ++ flat_map step_text (out-Derivation (out-Split s).left).steps → c ≡ b ++ codes "else\n"
-    → d ≡ c ++ flat_map step_text (out-Derivation (out-Split s).right).steps → e ≡ d ++ codes "done\n" → e ≡ t ++ split_text s
-split_is t a b c d e s ea eb ec ed ee =
-    let head = split_line (out-Split s).p (out-Split s).p0 (out-Split s).claim in
-    let left = flat_map step_text (out-Derivation (out-Split s).left).steps in
-    let right = flat_map step_text (out-Derivation (out-Split s).right).steps in
-    let else_is : c ≡ b ++ line (codes "else") [] = ec ∙ ap (λ z. b ++ z) (sym (line_word (codes "else"))) in
-    let done_is : e ≡ d ++ line (codes "done") [] = ee ∙ ap (λ z. d ++ z) (sym (line_word (codes "done"))) in
-    let to_left = joined t a b head left ea eb in
-    let to_else = joined t b c (head ++ left) (line (codes "else") []) to_left else_is in
-    let to_right = joined t c d ((head ++ left) ++ line (codes "else") []) right to_else ed in
-    joined t d e (((head ++ left) ++ line (codes "else") []) ++ right) (line (codes "done") []) to_right done_is ∙ ap (λ z. t ++ z) (sym (split_text_is s))
+-- ---- what a text grows by
 
-pub cut_is : (t a b c d : Text) (cut : Ineq × Derivation) → a ≡ t ++ codes "cut" → b ≡ a ++ fields_text (ineq_fields cut.0) → c ≡ b ++ (10 ∷ []) → d ≡ c ++ flat_map step_text (out-Derivation cut.1).steps → (e : Text) → e ≡ d ++ codes "qed\n" → e ≡ t ++ cut_text cut
+grows_nothing : (a : Builder) → Grows [] a a
+grows_nothing a = record { whole = λ e. (e, sym (append-nil a.bytes.items)) }
+
+pub grows_then : (x y : Text) (a b c : Builder) → Grows x a b → Grows y b c → Grows (x ++ y) a c
+grows_then x y a b c first second = record {
+  whole = λ e.
+      let after = second.whole e in
+      let before = first.whole after.0 in
+      (before.0, after.1 ∙ ap (λ z. z ++ y) before.1 ∙ append_assoc a.bytes.items x y);
+}
+
+pub grows_as : (x y : Text) (a b : Builder) → x ≡ y → Grows x a b → Grows y a b
+grows_as x y a b e grows = subst (λ (z : Text). Grows z a b) e grows
+
+pub no_items : {A : Type 0} (f : A → Text) (a : Builder) → Grows (flat_map f []) a a
+no_items f a = grows_nothing a
+
+pub no_fields : (a : Builder) → Grows (fields_text []) a a
+unfolding fields_text
+no_fields a = grows_nothing a
+
+pub field_grows : (x : Text) (a b c : Builder) → Grows (32 ∷ []) a b → Grows x b c → Grows (fields_text (x ∷ [])) a c
+field_grows x a b c space field = grows_as _ _ a c (sym (field_one x)) (grows_then (32 ∷ []) x a b c space field)
+
+pub fields_grow : (x y : List Text) (a b c : Builder) → Grows (fields_text x) a b → Grows (fields_text y) b c → Grows (fields_text (x ++ y)) a c
+fields_grow x y a b c first second = grows_as _ _ a c (sym (fields_append x y)) (grows_then (fields_text x) (fields_text y) a b c first second)
+
+pub line_grows : (word : Text) (fields : List Text) (a b c d : Builder) → Grows word a b → Grows (fields_text fields) b c → Grows (10 ∷ []) c d → Grows (line word fields) a d
+unfolding line
+line_grows word fields a b c d first middle end = grows_then _ _ a c d (grows_then word (fields_text fields) a b c first middle) end
+
+-- the next item of a list
+pub more_grows : {A : Type 0} (f : A → Text) (xs : List A) (i : ℕ) (d : A) (a b c : Builder) → i < length xs → Grows (flat_map f (take i xs)) a b → Grows (f (get_or xs i d)) b c → Grows (flat_map f (take (i + 1) xs)) a c
+more_grows f xs i d a b c h before here = grows_as _ _ a c (sym (flat_map_more f xs i d h)) (grows_then (flat_map f (take i xs)) (f (get_or xs i d)) a b c before here)
+
+pub more_fields : {A : Type 0} (f : A → List Text) (xs : List A) (i : ℕ) (d : A) (a b c : Builder) → i < length xs → Grows (fields_text (flat_map f (take i xs))) a b → Grows (fields_text (f (get_or xs i d))) b c → Grows (fields_text (flat_map f (take (i + 1) xs))) a c
+more_fields f xs i d a b c h before here =
+    grows_as _ _ a c (ap fields_text (sym (flat_map_more f xs i d h))) (fields_grow (flat_map f (take i xs)) (f (get_or xs i d)) a b c before here)
+
+pub split_grows : (s : Split) (a b c d e f : Builder) → Grows (split_line (out-Split s).p (out-Split s).p0 (out-Split s).claim) a b → Grows (flat_map step_text (out-Derivation (out-Split s).left).steps) b c → Grows (codes "else\n") c d
+    → Grows (flat_map step_text (out-Derivation (out-Split s).right).steps) d e → Grows (codes "done\n") e f → Grows (split_text s) a f
+split_grows s a b c d e f head left middle right end =
+    let else_is = grows_as _ _ c d (sym (line_word (codes "else"))) middle in
+    let done_is = grows_as _ _ e f (sym (line_word (codes "done"))) end in
+    grows_as _ _ a f (sym (split_text_is s)) (grows_then _ _ a e f (grows_then _ _ a d e (grows_then _ _ a c d (grows_then _ _ a b c head left) else_is) right) done_is)
+
+pub cut_grows : (cut : Ineq × Derivation) (a b c d e f : Builder) → Grows (codes "cut") a b → Grows (fields_text (ineq_fields cut.0)) b c → Grows (10 ∷ []) c d → Grows (flat_map step_text (out-Derivation cut.1).steps) d e → Grows (codes "qed\n") e f → Grows (cut_text cut) a f
 unfolding cut_text
-cut_is t a b c d cut ea eb ec ed e ee =
-    let head = line (codes "cut") (ineq_fields cut.0) in
-    let to_head : c ≡ t ++ head = line_is t a b c (codes "cut") (ineq_fields cut.0) ea eb ec in
-    let steps_is : d ≡ c ++ derivation_text cut.1 = ed ∙ ap (λ z. c ++ z) (sym (derivation_text_is cut.1)) in
-    let qed_is : e ≡ d ++ line (codes "qed") [] = ee ∙ ap (λ z. d ++ z) (sym (line_word (codes "qed"))) in
-    joined t d e (head ++ derivation_text cut.1) (line (codes "qed") []) (joined t c d head (derivation_text cut.1) to_head steps_is) qed_is
+cut_grows cut a b c d e f word fields end steps last =
+    let head = line_grows (codes "cut") (ineq_fields cut.0) a b c d word fields end in
+    let steps_are = grows_as _ _ d e (sym (derivation_text_is cut.1)) steps in
+    let qed_is = grows_as _ _ e f (sym (line_word (codes "qed"))) last in
+    grows_then _ _ a e f (grows_then _ _ a d e head steps_are) qed_is
 
-pub proof_is : (a b c d e : Text) (cuts : List (Ineq × Derivation)) → a ≡ codes "cgl-proof 1\ncuts" → b ≡ a ++ fields_text (decimal (length cuts) ∷ []) → c ≡ b ++ (10 ∷ []) → d ≡ c ++ flat_map cut_text cuts → e ≡ d ++ codes "end\n" → e ≡ proof_text cuts
+pub proof_grows : (cuts : List (Ineq × Derivation)) (a b c d e f : Builder) → Grows (codes "cgl-proof 1\ncuts") a b → Grows (fields_text (decimal (length cuts) ∷ [])) b c → Grows (10 ∷ []) c d → Grows (flat_map cut_text cuts) d e → Grows (codes "end\n") e f → Grows (proof_text cuts) a f
 unfolding proof_text line fields_text
-proof_is a b c d e cuts ea eb ec ed ee = ee ∙ ap (λ z. z ++ codes "end\n") (ed ∙ ap (λ z. z ++ flat_map cut_text cuts) (ec ∙ ap (λ z. z ++ (10 ∷ [])) (eb ∙ ap (λ z. z ++ fields_text (decimal (length cuts) ∷ [])) ea)))
+proof_grows cuts a b c d e f first count end items last =
+    grows_then _ _ a e f (grows_then _ _ a d e (grows_then _ _ a c d (grows_then _ _ a b c first count) end) items) last

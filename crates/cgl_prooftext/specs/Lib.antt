@@ -1,2 +1,3 @@
 pub mod ProofText
+pub mod Growth
 pub mod KnownProof

@@ -1,58 +1,86 @@
-ghost use Rattle.std.specs.Prelude.{◌≡◌, [], ◌∷◌, ◌++◌, OnOk};
+ghost use Rattle.std.specs.Prelude.{◌≡◌, [], ◌∷◌, false, IfOk};
 ghost use Rattle.std.specs.Fmt.{decimal, signed_decimal};
+ghost use Rattle.cgl_prooftext.specs.Growth.{Grows};
 ghost use Rattle.cgl_prooftext.specs.ProofText.{fields_text, ineq_fields, terms_fields};
 
 use cgl_model::Ineq;
 use cgl_num::Memory;
 use itoa::Buffer;
+use std::alloc::Global;
 
-pub fn append(text: &mut Vec<u8>, piece: &[u8]) -> Result<(), Memory>
-    ensures { OnOk result (text.new.items ≡ text.old.items ++ piece.now) }
-{
-    let Ok(()) = text.extend_from_slice(piece) else {
-        return Err(Memory);
-    };
-    Ok(())
+/// A text that grows by pieces. Where memory is refused for one, `finish` says so.
+#[derive(Drop)]
+pub struct Builder {
+    bytes: Vec<u8>,
+    refused: bool,
+}
+
+impl Builder {
+    pub fn new(alloc: Global) -> Builder
+        ensures { result.bytes.items ≡ [] }
+    {
+        Builder {
+            bytes: Vec::new(alloc),
+            refused: false,
+        }
+    }
+
+    pub fn append(&mut self, piece: &[u8])
+        ensures { Grows piece.now self.old self.new }
+    {
+        if self.bytes.extend_from_slice(piece).is_err() {
+            self.refused = true;
+        }
+    }
+
+    pub fn finish(self) -> Result<Vec<u8>, Memory>
+        ensures { IfOk result (λ bytes. (self.refused ≡ false) × (bytes.items ≡ self.bytes.items)) }
+    {
+        let Builder { bytes, refused } = self;
+        if refused {
+            return Err(Memory);
+        }
+        Ok(bytes)
+    }
 }
 
 /// A field behind a space.
-pub fn append_field(text: &mut Vec<u8>, field: &[u8]) -> Result<(), Memory>
-    ensures { OnOk result (text.new.items ≡ text.old.items ++ fields_text (field.now ∷ [])) }
+pub fn append_field(text: &mut Builder, field: &[u8])
+    ensures { Grows (fields_text (field.now ∷ [])) text.old text.new }
 {
-    append(text, b" ")?;
-    append(text, field)
+    text.append(b" ");
+    text.append(field);
 }
 
-pub fn append_count(text: &mut Vec<u8>, n: usize) -> Result<(), Memory>
-    ensures { OnOk result (text.new.items ≡ text.old.items ++ fields_text (decimal n ∷ [])) }
+pub fn append_count(text: &mut Builder, n: usize)
+    ensures { Grows (fields_text (decimal n ∷ [])) text.old text.new }
 {
     let mut buffer = Buffer::new();
-    append_field(text, buffer.format(n).as_bytes())
+    append_field(text, buffer.format(n).as_bytes());
 }
 
-pub fn append_number(text: &mut Vec<u8>, n: i128) -> Result<(), Memory>
-    ensures { OnOk result (text.new.items ≡ text.old.items ++ fields_text (signed_decimal n ∷ [])) }
+pub fn append_number(text: &mut Builder, n: i128)
+    ensures { Grows (fields_text (signed_decimal n ∷ [])) text.old text.new }
 {
     let mut buffer = Buffer::new();
-    append_field(text, buffer.format(n).as_bytes())
+    append_field(text, buffer.format(n).as_bytes());
 }
 
 /// How many terms there are, and the column and the coefficient of each.
-pub fn append_terms(text: &mut Vec<u8>, terms: &[(u32, i128)]) -> Result<(), Memory>
-    ensures { OnOk result (text.new.items ≡ text.old.items ++ fields_text (terms_fields terms.now)) }
+pub fn append_terms(text: &mut Builder, terms: &[(u32, i128)])
+    ensures { Grows (fields_text (terms_fields terms.now)) text.old text.new }
 {
-    append_count(text, terms.len())?;
+    append_count(text, terms.len());
     for term in terms {
-        append_count(text, term.0 as usize)?;
-        append_number(text, term.1)?;
+        append_count(text, term.0 as usize);
+        append_number(text, term.1);
     }
-    Ok(())
 }
 
-pub fn append_ineq(text: &mut Vec<u8>, ineq: &Ineq) -> Result<(), Memory>
-    ensures { OnOk result (text.new.items ≡ text.old.items ++ fields_text (ineq_fields ineq.now)) }
+pub fn append_ineq(text: &mut Builder, ineq: &Ineq)
+    ensures { Grows (fields_text (ineq_fields ineq.now)) text.old text.new }
 {
-    append_terms(text, ineq.terms.as_slice())?;
-    append_field(text, b">=")?;
-    append_number(text, ineq.rhs)
+    append_terms(text, ineq.terms.as_slice());
+    append_field(text, b">=");
+    append_number(text, ineq.rhs);
 }

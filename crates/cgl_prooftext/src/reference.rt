@@ -1,10 +1,10 @@
-ghost use Rattle.std.specs.Prelude.{◌≡◌, [], ◌∷◌, ◌++◌, OnOk};
+ghost use Rattle.std.specs.Prelude.{◌≡◌, [], ◌∷◌};
+ghost use Rattle.cgl_prooftext.specs.Growth.{Grows};
 ghost use Rattle.cgl_prooftext.specs.ProofText.{end_text, fields_text, numbered, ref_text, refs_fields};
 
-use crate::field::{append, append_count, append_number};
+use crate::field::{Builder, append_count, append_number};
 use cgl_derive::Ref;
 use cgl_model::{End, Place};
-use cgl_num::Memory;
 use itoa::Buffer;
 
 fn end_letter(end: End) -> &'static [u8]
@@ -17,18 +17,18 @@ fn end_letter(end: End) -> &'static [u8]
 }
 
 /// A field: a letter that says of what the number is, and an end's letter where there is one.
-fn append_numbered(text: &mut Vec<u8>, letter: &[u8], number: u32, end: &[u8]) -> Result<(), Memory>
-    ensures { OnOk result (text.new.items ≡ text.old.items ++ fields_text (numbered letter.now number end.now ∷ [])) }
+fn append_numbered(text: &mut Builder, letter: &[u8], number: u32, end: &[u8])
+    ensures { Grows (fields_text (numbered letter.now number end.now ∷ [])) text.old text.new }
 {
     let mut buffer = Buffer::new();
-    append(text, b" ")?;
-    append(text, letter)?;
-    append(text, buffer.format(number).as_bytes())?;
-    append(text, end)
+    text.append(b" ");
+    text.append(letter);
+    text.append(buffer.format(number).as_bytes());
+    text.append(end);
 }
 
-pub fn append_ref(text: &mut Vec<u8>, reference: Ref) -> Result<(), Memory>
-    ensures { OnOk result (text.new.items ≡ text.old.items ++ fields_text (ref_text reference ∷ [])) }
+pub fn append_ref(text: &mut Builder, reference: Ref)
+    ensures { Grows (fields_text (ref_text reference ∷ [])) text.old text.new }
 {
     match reference {
         Ref::Side(Place::Row(row, end)) => append_numbered(text, b"r", row, end_letter(end)),
@@ -44,13 +44,12 @@ pub fn append_ref(text: &mut Vec<u8>, reference: Ref) -> Result<(), Memory>
 }
 
 /// How many references there are, and each with its multiplier.
-pub fn append_refs(text: &mut Vec<u8>, refs: &[(Ref, i128)]) -> Result<(), Memory>
-    ensures { OnOk result (text.new.items ≡ text.old.items ++ fields_text (refs_fields refs.now)) }
+pub fn append_refs(text: &mut Builder, refs: &[(Ref, i128)])
+    ensures { Grows (fields_text (refs_fields refs.now)) text.old text.new }
 {
-    append_count(text, refs.len())?;
+    append_count(text, refs.len());
     for part in refs {
-        append_ref(text, part.0)?;
-        append_number(text, part.1)?;
+        append_ref(text, part.0);
+        append_number(text, part.1);
     }
-    Ok(())
 }

@@ -2,17 +2,14 @@ use Rattle.std.proofs.Common.{rules, codes}
 use Rattle.std.specs.Int.{w128}
 use Rattle.std.specs.Int.RustNames.{FitsSigned}
 use Rattle.std.proofs.lemmas.Int.{to_z-of_z}
-use Rattle.std.proofs.lemmas.Result.{on_ok_weaker}
 use Rattle.cgl_prooftext.specs.ProofText.{lin_text}
-use Rattle.cgl_prooftext.proofs.ProofTextLaws.{fields_join, line_is}
+use Rattle.cgl_prooftext.proofs.ProofTextLaws.{fields_grow, line_grows}
 use Rattle.cgl_prooftext.proofs.print.append_lin.Goals as goal
 
 pub returns : goal.returns
 unfolding lin_text
 returns c =
     let fits : FitsSigned w128 c.args.lin.now.q = search rules in
-    let is = to_z-of_z w128 c.args.lin.now.q fits in
-    let number = rw is at c.in_ok-append_number.ensures in
-    let refs = rw c.as_slice.ensures at c.in_ok-append_refs.ensures in
-    let fields = fields_join _ _ _ _ _ number (fields_join _ _ _ _ _ refs c.in_ok-append_ineq.ensures) in
-    on_ok_weaker c.append-2.result (λ e. line_is c.args.text.now.items c.append.new.text.items c.append_ineq.new.text.items c.append-2.new.text.items (codes "lin") _ c.in_ok-append.ensures fields e) c.append-2.ensures
+    let number = rw (to_z-of_z w128 c.args.lin.now.q fits) at c.append_number.ensures in
+    let refs = rw c.as_slice.ensures at c.append_refs.ensures in
+    line_grows (codes "lin") _ _ _ _ _ c.append.ensures (fields_grow _ _ _ _ _ number (fields_grow _ _ _ _ _ refs c.append_ineq.ensures)) c.append-2.ensures
