@@ -13,21 +13,21 @@ const NO_MEMORY: u8 = 7;
 /// The system does not give the words.
 const NO_WORDS: u8 = 9;
 
-/// The words behind the program's name. Words that are not UTF-8 are of no command: none are given for them, and the
-/// library refuses those.
+/// The program's name and the words behind it. Words that are not UTF-8 are of no command: none are given for them, and
+/// the library refuses those.
 fn given_words(rt: &HostRuntime) -> io::Result<Vec<String>> {
-    let mut words = Vec::new(rt.alloc());
-    let given = match env::args(rt) {
-        Ok(given) => given,
-        Err(error) if error.kind() == ErrorKind::InvalidData => return Ok(words),
-        Err(error) => return Err(error),
-    };
-    for word in given.skip(1) {
-        let Ok(()) = words.push(word) else {
-            return Err(io::Error::from(ErrorKind::OutOfMemory));
-        };
+    match env::args(rt) {
+        Ok(given) => Ok(given.collect(rt.alloc())?),
+        Err(error) if error.kind() == ErrorKind::InvalidData => Ok(Vec::new(rt.alloc())),
+        Err(error) => Err(error),
     }
-    Ok(words)
+}
+
+fn behind_name(words: &[String]) -> &[String] {
+    match words {
+        [_, rest @ ..] => rest,
+        [] => words,
+    }
 }
 
 /// The status of the program that has no words.
@@ -43,7 +43,13 @@ fn main(rt: HostRuntime) -> ExitCode {
     let mut out = StdSink::output(&rt);
     let mut err = StdSink::error(&rt);
     match given_words(&rt) {
-        Ok(words) => ExitCode::from(run(rt.alloc(), &words, &mut shelf, &mut out, &mut err)),
+        Ok(words) => ExitCode::from(run(
+            rt.alloc(),
+            behind_name(&words),
+            &mut shelf,
+            &mut out,
+            &mut err,
+        )),
         Err(error) => ExitCode::from(status_without_words(error)),
     }
 }
