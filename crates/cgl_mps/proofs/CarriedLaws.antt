@@ -1,18 +1,19 @@
 -- What is carried is what the records so far say, from none to one more.
-use Rattle.std.proofs.Common.{◌≡◌, refl, sym, ap, ◌∙◌, subst, ℕ, Bool, true, false, cond, not, ◌&&◌, List, [], ◌∷◌, ◌++◌, append-nil, map, None}
+use Rattle.std.proofs.Common.{◌≡◌, refl, sym, ap, ap₂, ◌∙◌, subst, ℕ, Bool, true, false, cond, not, ◌&&◌, List, [], ◌∷◌, ◌++◌, append-nil, map, filter_map, None}
 use Rattle.std.specs.List.{cons_option}
 use Rattle.std.proofs.lemmas.List.Elements.{filter-append}
 use Rattle.std.proofs.lemmas.List.{map-append}
 use Rattle.cgl_model.specs.declared.mip.Column.{Column}
 use Rattle.cgl_num.specs.NumberText.{Word}
+use Rattle.cgl_model.specs.declared.mip.RowKind.{RowKind}
 use Rattle.cgl_mps.specs.declared.record.Section.{Section}
-use Rattle.cgl_mps.specs.declared.record.Section.TheVariants.{Columns, Rhs, Ranges, Bounds}
+use Rattle.cgl_mps.specs.declared.record.Section.TheVariants.{Rows, Columns, Rhs, Ranges, Bounds}
 use Rattle.cgl_mps.specs.Records.{Record, field, data_in, is_kept}
-use Rattle.cgl_mps.specs.Sections.{is_marker, row_names, column_names}
+use Rattle.cgl_mps.specs.Sections.{is_marker, row_in, row_names, column_names}
 use Rattle.cgl_mps.specs.Faults.{Limits, fault_after, column_conditions, is_split}
 use Rattle.cgl_mps.specs.Models.{column_of}
 use Rattle.cgl_mps.specs.Found.{is_data_of}
-use Rattle.cgl_mps.specs.Carried.{ReadColumns, ReadPairs, ReadBounds, names_of, all_of, column_in, made_column, after_line, after_pairs, after_bound, IsColumns, IsPairs, IsBounds, IsCarried, splits}
+use Rattle.cgl_mps.specs.Carried.{ReadColumns, ReadPairs, ReadBounds, names_of, all_of, column_in, made_column, after_line, after_pairs, after_bound, IsColumns, IsPairs, IsBounds, IsCarried, splits, Adds, named_in}
 use Rattle.cgl_mps.proofs.ModelLaws.{row_names-append}
 use Rattle.cgl_mps.proofs.JudgedLaws.{NoneHolds}
 use Rattle.cgl_mps.proofs.SizeLaws.{judged_column}
@@ -41,27 +42,39 @@ bounds_on records read r is true stands =
     subst (λ (lines : List Record). IsBounds lines (after_bound read r)) (sym (lines_after Bounds records r true stands)) (bounds_in_order (data_in Bounds records) read r is)
 bounds_on records read r is false stands = subst (λ (lines : List Record). IsBounds lines read) (sym (lines_after Bounds records r false stands)) is
 
+named_by : (r : Record) (b : Bool) → is_data_of Rows r ≡ b → cond b (named_in r.fields) [] ≡ row_names (r ∷ [])
+named_by r true is = ap (λ (b : Bool). map (λ (n : RowKind × Word). n.1) (filter_map (λ (q : Record). row_in q.fields) (cond b (r ∷ []) []))) (sym is)
+named_by r false is = ap (λ (b : Bool). map (λ (n : RowKind × Word). n.1) (filter_map (λ (q : Record). row_in q.fields) (cond b (r ∷ []) []))) (sym is)
+
 pub carried_on : (records next : List Record) (r : Record) (rows rows' : List Word) (columns columns' : ReadColumns) (rhs rhs' ranges ranges' : ReadPairs) (bounds bounds' : ReadBounds)
     → IsCarried records rows columns rhs ranges bounds
     → splits records r ≡ false
     → next ≡ records ++ r ∷ []
-    → rows' ≡ rows ++ row_names (r ∷ [])
-    → columns' ≡ cond (is_data_of Columns r) (after_line columns r) columns
-    → rhs' ≡ cond (is_data_of Rhs r) (after_pairs Rhs rhs r) rhs
-    → ranges' ≡ cond (is_data_of Ranges r) (after_pairs Ranges ranges r) ranges
-    → bounds' ≡ cond (is_data_of Bounds r) (after_bound bounds r) bounds
+    → Adds (λ s. is_data_of s r) r rows rows' columns columns' rhs rhs' ranges ranges' bounds bounds'
     → IsCarried next rows' columns' rhs' ranges' bounds'
-carried_on records next r rows rows' columns columns' rhs rhs' ranges ranges' bounds bounds' is good more named entered sided ranged bounded =
+carried_on records next r rows rows' columns columns' rhs rhs' ranges ranges' bounds bounds' is good more said =
+    subst (λ (l : List Record). IsCarried l rows' columns' rhs' ranges' bounds') (sym more)
+    (record {
+      rows = said.rows ∙ ap₂ (λ l m. l ++ m) is.rows (named_by r (is_data_of Rows r) refl) ∙ sym (row_names-append records (r ∷ []));
+      columns = subst (λ (c : ReadColumns). IsColumns (data_in Columns (records ++ r ∷ [])) c) (sym said.columns) (columns_on records columns r is.columns (is_data_of Columns r) refl good);
+      rhs = subst (λ (p : ReadPairs). IsPairs Rhs (data_in Rhs (records ++ r ∷ [])) p) (sym said.rhs) (pairs_on Rhs records rhs r is.rhs (is_data_of Rhs r) refl);
+      ranges = subst (λ (p : ReadPairs). IsPairs Ranges (data_in Ranges (records ++ r ∷ [])) p) (sym said.ranges) (pairs_on Ranges records ranges r is.ranges (is_data_of Ranges r) refl);
+      bounds = subst (λ (b : ReadBounds). IsBounds (data_in Bounds (records ++ r ∷ [])) b) (sym said.bounds) (bounds_on records bounds r is.bounds (is_data_of Bounds r) refl);
+    })
+
+-- what a line adds, by the section in which it stands
+
+adds_where : (stands other : Section → Bool) (r : Record) (rows rows' : List Word) (columns columns' : ReadColumns) (rhs rhs' ranges ranges' : ReadPairs) (bounds bounds' : ReadBounds)
+    → ((s : Section) → other s ≡ stands s)
+    → Adds other r rows rows' columns columns' rhs rhs' ranges ranges' bounds bounds'
+    → Adds stands r rows rows' columns columns' rhs rhs' ranges ranges' bounds bounds'
+adds_where stands other r rows rows' columns columns' rhs rhs' ranges ranges' bounds bounds' same said =
     record {
-      rows = named ∙ ap (λ l. l ++ row_names (r ∷ [])) is.rows ∙ sym (row_names-append records (r ∷ [])) ∙ ap row_names (sym more);
-      columns = subst (λ (l : List Record). IsColumns (data_in Columns l) columns') (sym more)
-          (subst (λ (c : ReadColumns). IsColumns (data_in Columns (records ++ r ∷ [])) c) (sym entered) (columns_on records columns r is.columns (is_data_of Columns r) refl good));
-      rhs = subst (λ (l : List Record). IsPairs Rhs (data_in Rhs l) rhs') (sym more)
-          (subst (λ (p : ReadPairs). IsPairs Rhs (data_in Rhs (records ++ r ∷ [])) p) (sym sided) (pairs_on Rhs records rhs r is.rhs (is_data_of Rhs r) refl));
-      ranges = subst (λ (l : List Record). IsPairs Ranges (data_in Ranges l) ranges') (sym more)
-          (subst (λ (p : ReadPairs). IsPairs Ranges (data_in Ranges (records ++ r ∷ [])) p) (sym ranged) (pairs_on Ranges records ranges r is.ranges (is_data_of Ranges r) refl));
-      bounds = subst (λ (l : List Record). IsBounds (data_in Bounds l) bounds') (sym more)
-          (subst (λ (b : ReadBounds). IsBounds (data_in Bounds (records ++ r ∷ [])) b) (sym bounded) (bounds_on records bounds r is.bounds (is_data_of Bounds r) refl));
+      rows = said.rows ∙ ap (λ b. rows ++ cond b (named_in r.fields) []) (same Rows);
+      columns = said.columns ∙ ap (λ b. cond b (after_line columns r) columns) (same Columns);
+      rhs = said.rhs ∙ ap (λ b. cond b (after_pairs Rhs rhs r) rhs) (same Rhs);
+      ranges = said.ranges ∙ ap (λ b. cond b (after_pairs Ranges ranges r) ranges) (same Ranges);
+      bounds = said.bounds ∙ ap (λ b. cond b (after_bound bounds r) bounds) (same Bounds);
     }
 
 -- the columns of the model

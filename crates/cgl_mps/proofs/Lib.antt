@@ -4,6 +4,9 @@ pub mod FaultLaws
 pub mod ReadingLaws
 pub mod FrontLaws
 pub mod BoundLaws
+pub mod TurnLaws
+pub mod WordLaws
+pub mod DeckLaws
 pub mod ModelLaws
 pub mod PushLaws
 pub mod CarriedLaws

@@ -1,5 +1,5 @@
 -- What the words of the model become when one record more is taken.
-use Rattle.std.proofs.Common.{◌≡◌, refl, sym, ap, ◌∙◌, arith, ℕ, suc, ◌+◌, Bool, true, false, cond, not, ◌&&◌, ◌||◌, List, [], ◌∷◌, ◌++◌, append-nil, map, filter, filter_map, find, bytes_eq, Option, Some, None, option_map, option_and_then, take}
+use Rattle.std.proofs.Common.{◌≡◌, refl, sym, ap, ◌∙◌, arith, ℕ, suc, ◌+◌, Bool, true, false, cond, not, ◌&&◌, ◌||◌, List, [], ◌∷◌, ◌++◌, append-nil, map, filter, filter_map, find, bytes_eq, Option, Some, None, option_map, option_and_then, is_some, take}
 use Rattle.std.specs.List.{list_any, before_first, position_or_len}
 use Rattle.std.proofs.lemmas.List.{map-append}
 use Rattle.std.proofs.lemmas.List.Elements.{filter-append, filter_map-append}
@@ -8,6 +8,7 @@ use Rattle.cgl_text.specs.Text.{is_one_of}
 use Rattle.cgl_mps.specs.declared.record.Section.TheVariants.{Columns, Rows}
 use Rattle.cgl_mps.specs.Records.{Record, field, same_section, data_in}
 use Rattle.cgl_mps.specs.Sections.{Pair, is_marker, names_column, column_records, column_names, distinct, row_in, rows, row_names}
+use Rattle.cgl_mps.specs.Faults.{names_row}
 use Rattle.cgl_mps.specs.Models.{value_at, value_for}
 use Rattle.cgl_mps.proofs.CountLaws.{distinct-push}
 
@@ -19,6 +20,14 @@ value_case (Some p) = refl
 
 pub value_read : (pairs : List Pair) (row : Word) → value_at pairs row ≡ option_and_then number (value_for pairs row)
 value_read pairs row = value_case (find (λ (p : Pair). bytes_eq row p.0) pairs)
+
+named_case : (pair : Pair) (b : Bool) (others : Option Pair) (named : Bool) → named ≡ is_some (option_map (λ (p : Pair). p.1) others) → (b || named) ≡ is_some (option_map (λ (p : Pair). p.1) (cond b (Some pair) others))
+named_case pair true others named so_far = refl
+named_case pair false others named so_far = so_far
+
+pub row_named : (pairs : List Pair) (row : Word) → names_row pairs row ≡ is_some (value_for pairs row)
+row_named [] row = refl
+row_named (pair ∷ pairs) row = named_case pair (bytes_eq row pair.0) (find (λ (p : Pair). bytes_eq row p.0) pairs) (names_row pairs row) (row_named pairs row)
 
 -- markers before a column's first record
 

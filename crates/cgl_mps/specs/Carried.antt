@@ -5,9 +5,9 @@ use Rattle.cgl_num.specs.NumberText.{Word}
 use Rattle.cgl_text.specs.Text.{is_one_of}
 use Rattle.cgl_model.specs.declared.mip.Column.{Column}
 use Rattle.cgl_mps.specs.declared.record.Section.{Section}
-use Rattle.cgl_mps.specs.declared.record.Section.TheVariants.{Columns, Rhs, Ranges, Bounds}
+use Rattle.cgl_mps.specs.declared.record.Section.TheVariants.{Rows, Columns, Rhs, Ranges, Bounds}
 use Rattle.cgl_mps.specs.Records.{Record, field, data_in}
-use Rattle.cgl_mps.specs.Sections.{Pair, Bound, bound_in, set_pairs, entry_pairs, is_marker, names_column, distinct, set_in, same_set, first_or, row_names}
+use Rattle.cgl_mps.specs.Sections.{Pair, Bound, bound_in, set_pairs, entry_pairs, is_marker, names_column, distinct, set_in, same_set, first_or, row_in, row_names}
 use Rattle.cgl_mps.specs.Faults.{is_split}
 use Rattle.cgl_mps.specs.Found.{is_data_of}
 use Rattle.cgl_mps.specs.Models.{last_or, makes_integer, bounds_of, lower_of, upper_of, entry_of}
@@ -161,6 +161,18 @@ pub record IsCarried (records : List Record) (row_list : List Word) (column_list
   pub rhs : IsPairs Rhs (data_in Rhs records) rhs_list
   pub ranges : IsPairs Ranges (data_in Ranges records) range_list
   pub bounds : IsBounds (data_in Bounds records) bound_list
+
+-- the name of the row that the fields of a line say
+abbrev pub named_in : List Word → List Word
+named_in fields = map (λ r. r.1) (cons_option (row_in fields) [])
+
+-- what one record more makes of each part, where this tells in which section it is a data line
+pub record Adds (stands : Section → Bool) (r : Record) (row_list row_list' : List Word) (column_list column_list' : ReadColumns) (rhs_list rhs_list' range_list range_list' : ReadPairs) (bound_list bound_list' : ReadBounds) : Type 0 where
+  pub rows : row_list' ≡ row_list ++ (if stands Rows then named_in r.fields else [])
+  pub columns : column_list' ≡ (if stands Columns then after_line column_list r else column_list)
+  pub rhs : rhs_list' ≡ (if stands Rhs then after_pairs Rhs rhs_list r else rhs_list)
+  pub ranges : range_list' ≡ (if stands Ranges then after_pairs Ranges range_list r else range_list)
+  pub bounds : bound_list' ≡ (if stands Bounds then after_bound bound_list r else bound_list)
 
 -- whether the line goes back to a column that has ended
 abbrev pub splits : List Record → Record → Bool

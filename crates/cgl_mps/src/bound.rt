@@ -1,6 +1,6 @@
 //! Bounds as a line of BOUNDS says them.
 
-ghost use Rattle.std.specs.Prelude.{◌≡◌, ◌∷◌, ◌++◌, [], IfOk, OnOk, bytes_eq, filter, option_map};
+ghost use Rattle.std.specs.Prelude.{◌≡◌, ◌∷◌, ◌++◌, [], IfOk, OnOk, bytes_eq, filter, if◌then◌else◌, option_map};
 ghost use Rattle.cgl_text.specs.Seen.{word};
 
 use crate::record::BoundKind;
@@ -88,34 +88,6 @@ impl<'a> Bound<'a> {
     }
 }
 
-fn push_bound<'a>(bounds: &mut Vec<Bound<'a>>, bound: Bound<'a>) -> Result<(), Memory>
-    ensures { OnOk result (bounds.new.items ≡ bounds.old.items ++ bound.entry ∷ []) }
-{
-    let Ok(()) = bounds.push(bound) else {
-        return Err(Memory);
-    };
-    Ok(())
-}
-
-fn own_bounds<'a>(
-    alloc: Global,
-    bounds: &[Bound<'a>],
-    column: &[u8],
-) -> Result<Vec<Bound<'a>>, Memory>
-    ensures { IfOk result (λ found.
-        found.items ≡ filter (λ b. bytes_eq column.now b.column) bounds.now) }
-{
-    let mut found = Vec::new(alloc);
-    for bound in bounds {
-        if same_bytes(column, bound.column()) {
-            let Ok(()) = found.push(bound.again()) else {
-                return Err(Memory);
-            };
-        }
-    }
-    Ok(found)
-}
-
 /// Bounds in the order in which they came, found by their columns.
 #[derive(Drop)]
 pub(crate) struct Bounds<'a> {
@@ -144,15 +116,34 @@ impl<'a> Bounds<'a> {
     pub(crate) fn push(&mut self, bound: Bound<'a>) -> Result<(), Memory>
         ensures { OnOk result (self.new ≡ self.old ++ bound.entry ∷ []) }
     {
-        push_bound(&mut self.bounds, bound)
+        let Ok(()) = self.bounds.push(bound) else {
+            return Err(Memory);
+        };
+        Ok(())
+    }
+
+    /// Takes in the bound, where it is on the column.
+    fn push_own(&mut self, bound: &Bound<'a>, column: &[u8]) -> Result<(), Memory>
+        ensures { OnOk result (self.new
+            ≡ self.old ++ (if bytes_eq column.now bound.now.column then bound.now ∷ [] else [])) }
+    {
+        if same_bytes(column, bound.column()) {
+            self.push(bound.again())
+        } else {
+            Ok(())
+        }
     }
 
     /// Those on the column, in their order.
     pub(crate) fn on(&self, alloc: Global, column: &[u8]) -> Result<Bounds<'a>, Memory>
         ensures { IfOk result (λ found. found ≡ filter (λ b. bytes_eq column.now b.column) self.now) }
     {
-        let bounds = own_bounds(alloc, self.bounds.as_slice(), column)?;
-        Ok(Bounds { bounds })
+        let bounds = self.as_slice();
+        let mut found = Bounds::new(alloc);
+        for bound in bounds {
+            found.push_own(bound, column)?;
+        }
+        Ok(found)
     }
 
     pub(crate) fn as_slice(&self) -> &[Bound<'a>]

@@ -1,15 +1,16 @@
 //! The records so far, with what is looked for in them at hand.
 
-ghost use Rattle.std.specs.Prelude.{◌≡◌, ◌∷◌, ◌++◌, [], IfOk, OnOk, false, if◌then◌else◌};
-ghost use Rattle.cgl_mps.specs.declared.record.Section.TheVariants.{Columns, Rhs, Ranges, Bounds};
+ghost use Rattle.std.specs.Prelude.{◌≡◌, ◌∷◌, ◌++◌, [], OnOk, false};
+ghost use Rattle.cgl_mps.specs.declared.record.Section.TheVariants.{Columns, Bounds};
+ghost use Rattle.cgl_text.specs.Seen.{words};
 ghost use Rattle.cgl_mps.specs.Records.{data_in};
 ghost use Rattle.cgl_mps.specs.Sections.{row_names};
 ghost use Rattle.cgl_mps.specs.Found.{is_data_of};
-ghost use Rattle.cgl_mps.specs.Carried.{after_bound, after_line, after_pairs, HasPairs, IsBounds, IsCarried, IsColumns, IsPairs, splits};
+ghost use Rattle.cgl_mps.specs.Carried.{Adds, HasPairs, IsBounds, IsCarried, IsColumns, IsPairs, named_in, splits};
 
 use crate::columns::ReadColumns;
 use crate::record::{Record, Section};
-use crate::sections::{is_data_in, row_in};
+use crate::sections::row_in;
 use crate::sets::{ReadBounds, ReadPairs};
 use cgl_num::Memory;
 use cgl_text::Names;
@@ -46,53 +47,13 @@ impl<'a> Model for Carried<'a> {
     ghost invariant = { λ it. IsCarried it.parts.records.items it.parts.rows it.parts.columns it.parts.rhs it.parts.ranges it.parts.bounds };
 }
 
-/// Takes in one more line, which may name a row.
-fn add_row<'a>(rows: &mut Names<'a>, r: &Record<'a>) -> Result<(), Memory>
-    ensures { OnOk result (rows.new ≡ rows.old ++ row_names (r.now ∷ [])) }
+/// Takes in the name of the row that the fields say, where they say one.
+fn add_row<'a>(rows: &mut Names<'a>, fields: &[&'a [u8]]) -> Result<(), Memory>
+    ensures { OnOk result (rows.new ≡ rows.old ++ named_in (words fields.now)) }
 {
-    if !is_data_in(Section::Rows, r) {
-        return Ok(());
-    }
-    match row_in(r.fields()) {
+    match row_in(fields) {
         Some((_, name)) => rows.push(name),
         None => Ok(()),
-    }
-}
-
-fn add_pairs<'a>(section: Section, read: &mut ReadPairs<'a>, r: &Record<'a>) -> Result<(), Memory>
-    ensures { OnOk result (read.new
-        ≡ (if is_data_of section r.now then after_pairs section read.old r.now else read.old)) }
-{
-    if is_data_in(section, r) {
-        read.add(section, r)
-    } else {
-        Ok(())
-    }
-}
-
-fn add_bound<'a>(read: &mut ReadBounds<'a>, r: &Record<'a>) -> Result<(), Memory>
-    ensures { OnOk result (read.new
-        ≡ (if is_data_of Bounds r.now then after_bound read.old r.now else read.old)) }
-{
-    if is_data_in(Section::Bounds, r) {
-        read.add(r)
-    } else {
-        Ok(())
-    }
-}
-
-fn add_column<'a>(
-    alloc: Global,
-    columns: &mut ReadColumns<'a>,
-    r: &Record<'a>,
-) -> Result<(), Memory>
-    ensures { OnOk result (columns.new
-        ≡ (if is_data_of Columns r.now then after_line columns.old r.now else columns.old)) }
-{
-    if is_data_in(Section::Columns, r) {
-        columns.add(alloc, r)
-    } else {
-        Ok(())
     }
 }
 
@@ -114,21 +75,19 @@ impl<'a> Parts<'a> {
     /// Takes in what one more record says, and not the record.
     fn add(&mut self, alloc: Global, r: &Record<'a>) -> Result<(), Memory>
         ensures records { OnOk result (self.new.records ≡ self.old.records) }
-        ensures rows { OnOk result (self.new.rows ≡ self.old.rows ++ row_names (r.now ∷ [])) }
-        ensures columns { OnOk result (self.new.columns
-            ≡ (if is_data_of Columns r.now then after_line self.old.columns r.now else self.old.columns)) }
-        ensures rhs { OnOk result (self.new.rhs
-            ≡ (if is_data_of Rhs r.now then after_pairs Rhs self.old.rhs r.now else self.old.rhs)) }
-        ensures ranges { OnOk result (self.new.ranges
-            ≡ (if is_data_of Ranges r.now then after_pairs Ranges self.old.ranges r.now else self.old.ranges)) }
-        ensures bounds { OnOk result (self.new.bounds
-            ≡ (if is_data_of Bounds r.now then after_bound self.old.bounds r.now else self.old.bounds)) }
+        ensures said { OnOk result (Adds (λ s. is_data_of s r.now) r.now self.old.rows self.new.rows self.old.columns self.new.columns self.old.rhs self.new.rhs self.old.ranges self.new.ranges self.old.bounds self.new.bounds) }
     {
-        add_row(&mut self.rows, r)?;
-        add_column(alloc, &mut self.columns, r)?;
-        add_pairs(Section::Rhs, &mut self.rhs, r)?;
-        add_pairs(Section::Ranges, &mut self.ranges, r)?;
-        add_bound(&mut self.bounds, r)
+        if r.is_header() {
+            return Ok(());
+        }
+        match r.section() {
+            Section::Rows => add_row(&mut self.rows, r.fields()),
+            Section::Columns => self.columns.add(alloc, r),
+            Section::Rhs => self.rhs.add(Section::Rhs, r),
+            Section::Ranges => self.ranges.add(Section::Ranges, r),
+            Section::Bounds => self.bounds.add(r),
+            _ => Ok(()),
+        }
     }
 
     /// Takes in one more record.

@@ -20,14 +20,14 @@ use crate::names::{
     bound_counts, counts_after, has_entry, has_row, has_value, is_new_column, is_split,
     lacks_column,
 };
-use crate::numbers::{is_number, limit_of, number};
+use crate::numbers::{limit_of, number};
 use crate::record::{BoundKind, Record, Section, field};
 use crate::records::is_kept;
 use crate::sections::{
     bound_in, entry_fields, has_header, is_marker, is_sense, names_row, needs_value, row_in,
     sense_in, set_fields, word_at,
 };
-use cgl_num::Limit;
+use cgl_num::{Limit, is_number_text};
 use cgl_text::{is_over, same_bytes};
 
 fn is_long(name: &[u8]) -> bool
@@ -383,7 +383,7 @@ fn is_number_or_none(value: Option<&[u8]>) -> bool
     ensures { result ≡ unwrap_or (option_map is_number (option_map word value.entry)) true }
 {
     match value {
-        Some(value) => is_number(value),
+        Some(value) => is_number_text(value),
         None => true,
     }
 }

@@ -43,9 +43,7 @@ fn name_of<'a>(records: &[Record<'a>]) -> &'a [u8]
 {
     let mut name: &'a [u8] = &[];
     for r in records {
-        if let Some(found) = name_in(r) {
-            name = found;
-        }
+        name = name_in(r).unwrap_or(name);
     }
     name
 }

@@ -64,12 +64,6 @@ fn value_for<'a>(pairs: &[Pair<'a>], row: &[u8]) -> Option<&'a [u8]>
     None
 }
 
-fn some_names(pairs: &[Pair], row: &[u8]) -> bool
-    ensures { result ≡ names_row pairs.now row.now }
-{
-    pairs.iter().any(|p| same_bytes(row, p.row()))
-}
-
 /// Pairs of row and value in the order in which they came, found by their rows.
 #[derive(Drop)]
 pub(crate) struct Pairs<'a> {
@@ -102,10 +96,11 @@ impl<'a> Pairs<'a> {
     }
 
     /// Whether a pair names the row.
+    #[tactic(auto, using(crate::proofs::ModelLaws::row_named))]
     pub(crate) fn has(&self, row: &[u8]) -> bool
         ensures { result ≡ names_row self.now row.now }
     {
-        some_names(self.pairs.as_slice(), row)
+        self.find(row).is_some()
     }
 
     /// The value of the first pair that names the row.

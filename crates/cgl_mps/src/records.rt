@@ -3,9 +3,10 @@
 ghost use Rattle.std.specs.Prelude.{◌≡◌, ◌&&◌, IfOk, if◌then◌else◌, not};
 ghost use Rattle.cgl_text.specs.Text.{begins_blank, is_one_of, no_field};
 ghost use Rattle.cgl_text.specs.Seen.{words};
-ghost use Rattle.cgl_mps.specs.Records.{first_word, is_end, is_kept, record_of, section_after, section_named, unsupported};
+ghost use Rattle.cgl_mps.specs.Records.{first_word, is_kept, record_of, section_after, section_named, unsupported};
 
 use crate::record::{Record, Section};
+use crate::sections::word_at;
 use cgl_num::Memory;
 use cgl_text::{begins_blank, kept_fields, same_bytes};
 use std::alloc::Global;
@@ -75,10 +76,7 @@ fn section_after(section: Section, header: bool, fields: &[&[u8]]) -> Section
     if !header {
         return section;
     }
-    match fields {
-        [first, ..] => section_named(first),
-        [] => section_named(&[]),
-    }
+    section_named(word_at(fields, 0))
 }
 
 /// The record of line n, after a line in the section.
@@ -103,11 +101,4 @@ pub(crate) fn is_kept(r: &Record) -> bool
     ensures { result ≡ is_kept r.now }
 {
     !r.fields().is_empty()
-}
-
-/// Whether the record is the ENDATA line or follows it.
-pub(crate) fn is_end(r: &Record) -> bool
-    ensures { result ≡ is_end r.now }
-{
-    r.section().is(Section::End)
 }

@@ -235,12 +235,9 @@ fn bound_with<'a>(kind: BoundKind, fields: &[&'a [u8]]) -> Option<Bound<'a>>
 pub(crate) fn bound_in<'a>(fields: &[&'a [u8]]) -> Option<Bound<'a>>
     ensures { result ≡ bound_in (words fields.now) }
 {
-    match fields {
-        [] => None,
-        [kind, others @ ..] => match bound_kind(kind) {
-            Some(kind) => bound_with(kind, others),
-            None => None,
-        },
+    match bound_kind(word_at(fields, 0)) {
+        Some(kind) => bound_with(kind, rest(fields)),
+        None => None,
     }
 }
 

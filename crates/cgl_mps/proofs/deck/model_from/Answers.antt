@@ -1,9 +1,11 @@
-use Rattle.std.proofs.Common.{◌≡◌, None, refl, sym, ap₂, ◌∙◌}
+use Rattle.std.proofs.Common.{◌≡◌, ◌+◌, None, true, false, refl, sym, ap, ap₂, ◌∙◌}
+use Rattle.std.proofs.lemmas.Result.{IfOk-weaker}
 use Rattle.cgl_mps.specs.declared.record.Section.TheVariants.{Start}
-use Rattle.cgl_mps.specs.Decode.{deck_limits}
+use Rattle.cgl_mps.specs.Decode.{deck_limits, Deck}
 use Rattle.cgl_mps.specs.Faults.{fault_after}
 use Rattle.cgl_mps.specs.Reading.{read_from}
 use Rattle.cgl_mps.proofs.CarriedLaws.{follows}
+use Rattle.cgl_mps.proofs.DeckLaws.{line_read}
 use Rattle.cgl_mps.proofs.ReadingLaws.{reads_alike}
 use Rattle.cgl_mps.proofs.deck.model_from.Goals as goal
 
@@ -21,3 +23,17 @@ pub keep-requires : goal.keep-requires
 keep-requires c =
     let none : fault_after deck_limits c.args.bytes.now c.loop-line.before c.in_ok-r.r ≡ None = c.in_ok-r.ensures.sound in
     follows deck_limits c.args.bytes.now c.loop-line.before c.in_ok-r.r none
+
+pub returns-then-is-clause-model : goal.returns-then-is-clause-model
+returns-then-is-clause-model c =
+    let ended = line_read c.args.bytes.now c.loop-line.n c.loop-line.section c.section-section.result c.loop-line.before c.keep.new.before c.in_ok-r.r c.args.lines.now c.loop-line.line-index _ None true
+    c.loop-line-test.true c.loop-line.invariant.reading c.in_ok-r.ensures.record c.in_ok-r.ensures.sound c.section-section.ensures c.in_ok-keep.ensures.ok (sym c.is.ensures ∙ c.if-is.true) in
+    IfOk-weaker c.whole_model.result _ _ (λ m is. ended ∙ ap Deck (sym is)) c.whole_model.ensures.ok
+
+pub loop-line-preserved : goal.loop-line-preserved
+loop-line-preserved c =
+    record {
+      number = ap (λ n. n + 1) c.loop-line.invariant.number;
+      reading = line_read c.args.bytes.now c.loop-line.n c.loop-line.section c.section-section.result c.loop-line.before c.keep.new.before c.in_ok-r.r c.args.lines.now c.loop-line.line-index _ None false
+          c.loop-line-test.true c.loop-line.invariant.reading c.in_ok-r.ensures.record c.in_ok-r.ensures.sound c.section-section.ensures c.in_ok-keep.ensures.ok (sym c.is.ensures ∙ c.if-is.false);
+    }

@@ -9,4 +9,4 @@ returns-clause-good c =
     let said = c.in_ok-add.ensures in
     carried_on was.records.items c.push.new.self.items c.args.r was.rows now.rows was.columns now.columns was.rhs now.rhs was.ranges now.ranges was.bounds now.bounds
     c.requires.good c.requires.no_split
-    (c.in-Ok.ensures.items ∙ ap (λ records. records.items ++ c.args.r ∷ []) said.records) said.rows said.columns said.rhs said.ranges said.bounds
+    (c.in-Ok.ensures.items ∙ ap (λ records. records.items ++ c.args.r ∷ []) said.records) said.said
