@@ -2,7 +2,7 @@
 use Rattle.std.proofs.Common.{◌≡◌, refl, sym, ap, ap₂, ◌∙◌, subst, ℕ, Bool, true, false, cond, not, ◌&&◌, List, [], ◌∷◌, ◌++◌, append-nil, map, filter_map, None}
 use Rattle.std.specs.List.{cons_option}
 use Rattle.std.proofs.lemmas.List.Elements.{filter-append}
-use Rattle.std.proofs.lemmas.List.{map-append}
+use Rattle.std.proofs.lemmas.List.{append_assoc, map-append}
 use Rattle.cgl_model.specs.declared.mip.Column.{Column}
 use Rattle.cgl_num.specs.NumberText.{Word}
 use Rattle.cgl_model.specs.declared.mip.RowKind.{RowKind}
@@ -88,15 +88,14 @@ all_made records columns is = ap (map (made_column records)) (are_all (data_in C
 
 pub made_in_turn : (records : List Record) (columns : ReadColumns) (none some made : List Column)
     → IsColumns (data_in Columns records) columns
-    → none ≡ []
     → some ≡ none ++ map (made_column records) columns.ended
     → made ≡ some ++ map (made_column records) (cons_option columns.current [])
-    → made ≡ map (column_of records) (column_names records)
-made_in_turn records columns none some made is empty ended all =
+    → made ≡ none ++ map (column_of records) (column_names records)
+made_in_turn records columns none some made is ended all =
     all
-    ∙ ap (λ l. l ++ map (made_column records) (cons_option columns.current [])) (ended ∙ ap (λ l. l ++ map (made_column records) columns.ended) empty)
-    ∙ sym (map-append (made_column records) columns.ended (cons_option columns.current []))
-    ∙ all_made records columns is
+    ∙ ap (λ l. l ++ map (made_column records) (cons_option columns.current [])) ended
+    ∙ append_assoc none (map (made_column records) columns.ended) (map (made_column records) (cons_option columns.current []))
+    ∙ ap (λ l. none ++ l) (sym (map-append (made_column records) columns.ended (cons_option columns.current [])) ∙ all_made records columns is)
 
 -- a line without a fault goes back to no column that has ended
 

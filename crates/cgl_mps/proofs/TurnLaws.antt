@@ -42,6 +42,13 @@ last_found f xs i last whole past so_far = sym (ap (λ l. last_or last (filter_m
 
 -- whether any passes
 
+pub passed_turn : {X : Type 0} (p : X → Bool) (xs : List X) (i : ℕ) (x : X) (here whole : Bool)
+    → i < length xs → x ≡ get_or xs i x → p x ≡ here → list_any p (drop i xs) ≡ whole → (here || list_any p (drop (i + 1) xs)) ≡ whole
+passed_turn p xs i x here whole below is passes so_far = sym (ap (list_any p) (the_rest xs i x below is) ∙ ap (λ b. b || list_any p (drop (i + 1) xs)) passes) ∙ so_far
+
+pub none_in : {X : Type 0} (p : X → Bool) (xs : List X) (i : ℕ) (whole : Bool) → length xs ≤ i → list_any p (drop i xs) ≡ whole → false ≡ whole
+none_in p xs i whole past so_far = sym (ap (list_any p) (drop_of_length-le xs past)) ∙ so_far
+
 any_option : {X : Type 0} (p : X → Bool) (o : Option X) (l : List X) → list_any p (cons_option o l) ≡ (unwrap_or (option_map p o) false || list_any p l)
 any_option p None l = refl
 any_option p (Some x) l = refl

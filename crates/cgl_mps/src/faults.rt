@@ -70,7 +70,12 @@ fn is_behind(section: Section, h: &Record) -> bool
 fn some_behind(section: Section, before: &[Record]) -> bool
     ensures { result ≡ list_any (is_behind section) before.now }
 {
-    before.iter().any(|h| is_behind(section, h))
+    for h in before {
+        if is_behind(section, h) {
+            return true;
+        }
+    }
+    false
 }
 
 fn is_misplaced(before: &[Record], r: &Record) -> bool
@@ -133,16 +138,15 @@ fn has_sense(r: &Record) -> bool
     sense_in(r).is_some()
 }
 
-fn some_sense(before: &[Record]) -> bool
-    ensures { result ≡ list_any has_sense before.now }
-{
-    before.iter().any(|r| has_sense(r))
-}
-
 fn is_sense_given(before: &[Record]) -> bool
     ensures { result ≡ not (no_word (senses before.now)) }
 {
-    some_sense(before)
+    for r in before {
+        if has_sense(r) {
+            return true;
+        }
+    }
+    false
 }
 
 fn sense_fault(before: &[Record], r: &Record) -> Option<u8>

@@ -102,7 +102,12 @@ fn is_negative_upper(b: &Bound) -> bool
 fn has_negative_upper(bounds: &[Bound]) -> bool
     ensures { result ≡ list_any (λ b. is_upper b.kind && is_below_zero (value_in b)) bounds.now }
 {
-    bounds.iter().any(|b| is_negative_upper(b))
+    for b in bounds {
+        if is_negative_upper(b) {
+            return true;
+        }
+    }
+    false
 }
 
 /// The lower bound where no record sets it.
@@ -140,13 +145,24 @@ pub(crate) fn upper_of(bounds: &[Bound]) -> Option<Dec>
     upper
 }
 
+fn is_integer(kind: BoundKind) -> bool
+    ensures { result ≡ makes_integer kind }
+{
+    match kind {
+        BoundKind::Li | BoundKind::Ui | BoundKind::Bv => true,
+        _ => false,
+    }
+}
+
 pub(crate) fn makes_integer(bounds: &[Bound]) -> bool
     ensures { result ≡ list_any (λ b. makes_integer b.kind) bounds.now }
 {
-    bounds.iter().any(|b| match b.kind() {
-        BoundKind::Li | BoundKind::Ui | BoundKind::Bv => true,
-        _ => false,
-    })
+    for b in bounds {
+        if is_integer(b.kind()) {
+            return true;
+        }
+    }
+    false
 }
 
 /// The bounds that count for a column.

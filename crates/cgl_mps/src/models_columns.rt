@@ -134,12 +134,19 @@ fn push_last(
     }
 }
 
+fn push_all(alloc: Global, made: &mut Seq<Column>, before: &Carried) -> Result<(), Memory>
+    ensures { OnOk result (made.new
+        ≡ made.old ++ map (column_of before.now) (column_names before.now)) }
+{
+    let columns = before.columns();
+    push_columns(alloc, made, before, columns.ended())?;
+    push_last(alloc, made, before, columns.current())
+}
+
 pub(crate) fn columns_of(alloc: Global, before: &Carried) -> Result<Seq<Column>, Memory>
     ensures { IfOk result (λ made. made ≡ map (column_of before.now) (column_names before.now)) }
 {
-    let columns = before.columns();
     let mut made = Seq::new(alloc);
-    push_columns(alloc, &mut made, before, columns.ended())?;
-    push_last(alloc, &mut made, before, columns.current())?;
+    push_all(alloc, &mut made, before)?;
     Ok(made)
 }

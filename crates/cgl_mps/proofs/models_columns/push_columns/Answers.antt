@@ -1,7 +1,7 @@
-use Rattle.std.proofs.Common.{◌∙◌, [], ◌∷◌, ◌++◌, map, drop, length}
+use Rattle.std.proofs.Common.{[], ◌∷◌, map}
 use Rattle.std.proofs.lemmas.List.{map-append}
 use Rattle.cgl_mps.specs.Carried.{made_column}
-use Rattle.cgl_mps.proofs.TurnLaws.{grown, all_grown}
+use Rattle.cgl_mps.proofs.TurnLaws.{grown}
 use Rattle.cgl_mps.proofs.models_columns.push_columns.Goals as goal
 
 pub loop-column-preserved : goal.loop-column-preserved

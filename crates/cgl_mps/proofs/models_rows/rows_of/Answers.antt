@@ -1,4 +1,4 @@
-use Rattle.std.proofs.Common.{◌≡◌, refl, ap, ◌∙◌, map, [], ◌∷◌, ◌++◌, List}
+use Rattle.std.proofs.Common.{refl, ap, ◌∙◌, map, [], ◌∷◌, List}
 use Rattle.std.proofs.lemmas.List.{map-append}
 use Rattle.cgl_mps.specs.Records.{Record}
 use Rattle.cgl_mps.specs.Sections.{rows}

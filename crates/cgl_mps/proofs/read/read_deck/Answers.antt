@@ -1,4 +1,4 @@
-use Rattle.std.proofs.Common.{◌≡◌, sym, ap, ◌∙◌, subst, refl, inl, Err}
+use Rattle.std.proofs.Common.{sym, ap, ◌∙◌, subst, refl, inl, Err}
 use Rattle.std.specs.Prelude.{IfErr}
 use Rattle.std.proofs.lemmas.Result.{IfOk-weaker}
 use Rattle.cgl_mps.specs.Decode.{decode, Deck}
