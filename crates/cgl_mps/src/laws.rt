@@ -11,7 +11,6 @@ pub fn reads_alike()
 {}
 
 /// The bounds that the filters give are those of records that act in order.
-#[tactic(auto, using(crate::proofs::BoundLaws::lower_of_push, crate::proofs::BoundLaws::upper_of_push))]
 pub fn bounds_in_order()
     ensures lower { LowerInOrder }
     ensures upper { UpperInOrder }

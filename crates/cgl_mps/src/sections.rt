@@ -1,6 +1,6 @@
 //! What one record, or a list of records, says.
 
-ghost use Rattle.std.specs.Prelude.{◌≡◌, ◌≤◌, ◌&&◌, if◌then◌else◌, false, length, map, not, option_map, true};
+ghost use Rattle.std.specs.Prelude.{◌≡◌, ◌≤◌, ◌∷◌, ◌&&◌, [], Some, if◌then◌else◌, length, map, not, option_map};
 ghost use Rattle.std.specs.List.{list_any};
 ghost use Rattle.cgl_text.specs.Text.{is_one_of};
 ghost use Rattle.cgl_mps.specs.Records.{same_section, has_header, data_in};
@@ -198,36 +198,26 @@ pub(crate) fn needs_value(kind: BoundKind) -> bool
     }
 }
 
-/// The bound of a kind that says nothing without a value, from the fields behind its kind.
-fn bound_valued<'a>(kind: BoundKind, fields: &[&'a [u8]]) -> Option<Bound<'a>>
-    ensures { result ≡ bound_with kind true (words fields.now) }
+/// The bound of two fields behind a kind: a column and its value, or a set and a column.
+fn bound_of_two<'a>(kind: BoundKind, first: &'a [u8], second: &'a [u8]) -> Bound<'a>
+    ensures { Some result ≡ bound_with kind (needs_value kind) (first.now ∷ second.now ∷ []) }
 {
-    match fields {
-        [column, value] => Some(Bound::new(kind, None, column, Some(value))),
-        [set, column, value] => Some(Bound::new(kind, Some(set), column, Some(value))),
-        _ => None,
+    if needs_value(kind) {
+        Bound::new(kind, None, first, Some(second))
+    } else {
+        Bound::new(kind, Some(first), second, None)
     }
 }
 
-/// The same where the kind says something without a value.
-fn bound_bare<'a>(kind: BoundKind, fields: &[&'a [u8]]) -> Option<Bound<'a>>
-    ensures { result ≡ bound_with kind false (words fields.now) }
-{
-    match fields {
-        [column] => Some(Bound::new(kind, None, column, None)),
-        [set, column] => Some(Bound::new(kind, Some(set), column, None)),
-        [set, column, value] => Some(Bound::new(kind, Some(set), column, Some(value))),
-        _ => None,
-    }
-}
-
+/// The bound that the fields behind a kind say, where they are of the form.
 fn bound_with<'a>(kind: BoundKind, fields: &[&'a [u8]]) -> Option<Bound<'a>>
     ensures { result ≡ bound_with kind (needs_value kind) (words fields.now) }
 {
-    if needs_value(kind) {
-        bound_valued(kind, fields)
-    } else {
-        bound_bare(kind, fields)
+    match fields {
+        [column] if !needs_value(kind) => Some(Bound::new(kind, None, column, None)),
+        [first, second] => Some(bound_of_two(kind, first, second)),
+        [set, column, value] => Some(Bound::new(kind, Some(set), column, Some(value))),
+        _ => None,
     }
 }
 
