@@ -62,21 +62,6 @@ carried_on records next r rows rows' columns columns' rhs rhs' ranges ranges' bo
       bounds = subst (λ (b : ReadBounds). IsBounds (data_in Bounds (records ++ r ∷ [])) b) (sym said.bounds) (bounds_on records bounds r is.bounds (is_data_of Bounds r) refl);
     })
 
--- what a line adds, by the section in which it stands
-
-adds_where : (stands other : Section → Bool) (r : Record) (rows rows' : List Word) (columns columns' : ReadColumns) (rhs rhs' ranges ranges' : ReadPairs) (bounds bounds' : ReadBounds)
-    → ((s : Section) → other s ≡ stands s)
-    → Adds other r rows rows' columns columns' rhs rhs' ranges ranges' bounds bounds'
-    → Adds stands r rows rows' columns columns' rhs rhs' ranges ranges' bounds bounds'
-adds_where stands other r rows rows' columns columns' rhs rhs' ranges ranges' bounds bounds' same said =
-    record {
-      rows = said.rows ∙ ap (λ b. rows ++ cond b (named_in r.fields) []) (same Rows);
-      columns = said.columns ∙ ap (λ b. cond b (after_line columns r) columns) (same Columns);
-      rhs = said.rhs ∙ ap (λ b. cond b (after_pairs Rhs rhs r) rhs) (same Rhs);
-      ranges = said.ranges ∙ ap (λ b. cond b (after_pairs Ranges ranges r) ranges) (same Ranges);
-      bounds = said.bounds ∙ ap (λ b. cond b (after_bound bounds r) bounds) (same Bounds);
-    }
-
 -- the columns of the model
 
 made_named : (records : List Record) (names : List Word) → map (made_column records) (map (column_in (data_in Columns records)) names) ≡ map (column_of records) names

@@ -148,11 +148,11 @@ impl<'a> ReadColumns<'a> {
         let Some(column) = self.current.take() else {
             return Ok(());
         };
-        self.names.push(column.name())?;
+        let name = column.name();
         let Ok(()) = self.ended.push(column) else {
             return Err(Memory);
         };
-        Ok(())
+        self.names.push(name)
     }
 
     /// Begins a column of this name.

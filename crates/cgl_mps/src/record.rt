@@ -1,6 +1,7 @@
 ghost use Rattle.std.specs.Prelude.{◌≡◌, map};
 ghost use Rattle.cgl_mps.specs.Records.{place, same_section, field};
 
+use crate::sections::word_at;
 use std::marker::Model;
 
 /// The section in which a line stands.
@@ -141,8 +142,5 @@ impl<'a> Record<'a> {
 pub fn field<'a>(r: &Record<'a>, k: usize) -> &'a [u8]
     ensures { result.now ≡ field k r.now }
 {
-    match r.fields().get(k) {
-        Some(found) => *found,
-        None => &[],
-    }
+    word_at(r.fields(), k)
 }
