@@ -21,13 +21,23 @@ pub(crate) fn is_data_in(section: Section, r: &Record) -> bool
     !r.is_header() && section.is(r.section())
 }
 
+/// Whether the record is the header of the section.
+fn is_header_of(section: Section, r: &Record) -> bool
+    ensures { result ≡ (r.now.header && same_section section r.now.section) }
+{
+    r.is_header() && section.is(r.section())
+}
+
 /// Whether the section's header stands among the records.
 pub(crate) fn has_header(section: Section, records: &[Record]) -> bool
     ensures { result ≡ has_header section records.now }
 {
-    records
-        .iter()
-        .any(|r| r.is_header() && section.is(r.section()))
+    for r in records {
+        if is_header_of(section, r) {
+            return true;
+        }
+    }
+    false
 }
 
 // OBJSENSE
