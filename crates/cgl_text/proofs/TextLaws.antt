@@ -1,9 +1,12 @@
 -- The first line and the first field of a text, by the place of their end.
-use Rattle.std.proofs.Common.{◌≡◌, ◌≢◌, ◌<◌, ◌≤◌, eq-eqb, ℕ, zero, suc, ◌+◌, ◌-◌, List, [], ◌∷◌, length, get_or, take, drop, true, false, cond, eqb, refl, sym, ap, ◌∙◌, arith, add-one, length-drop}
+use Rattle.std.proofs.Common.{◌≡◌, ◌≢◌, ◌<◌, ◌≤◌, eq-eqb, ℕ, zero, suc, ◌+◌, ◌-◌, List, [], ◌∷◌, ◌++◌, append-nil, append_assoc, length, get_or, take, drop, Bool, true, false, cond, eqb, ◌==◌, ◌||◌, refl, sym, ap, ◌∙◌, arith, add-one, length-drop}
 use Rattle.std.proofs.lemmas.Bool.Decides.{nat_tests}
-use Rattle.std.proofs.lemmas.List.{take_all}
+use Rattle.std.proofs.lemmas.List.{take_all, map-append}
 use Rattle.std.specs.List.{onto_first}
-use Rattle.cgl_text.specs.Text.{lines_of, fields_of, is_blank, begins_blank}
+use denote.Ref.{Bor}
+use Rattle.cgl_num.specs.NumberText.{Word}
+use Rattle.cgl_text.specs.Seen.{word, words}
+use Rattle.cgl_text.specs.Text.{lines_of, fields_of, is_blank, begins_blank, kept_fields}
 
 -- what a slice from n on has
 pub rest_is : (bytes : List ℕ) (n : ℕ) → take (length bytes - n) (drop n bytes) ≡ drop n bytes
@@ -55,3 +58,40 @@ field_found (b ∷ (d ∷ text)) (suc zero) begins le before at = field_alone b 
 field_found (b ∷ (d ∷ text)) (suc (suc end)) begins le before at =
     field_onto b (d ∷ text) begins (before 1 (omega arith))
     ∙ ap (onto_first b) (field_found (d ∷ text) (suc end) (before 1 (omega arith)) (omega arith) (λ k l. before (suc k) (omega arith)) (λ l. at (omega arith)))
+
+apart_test : (n m : ℕ) → n ≢ m → eqb n m ≡ false
+apart_test n m apart = grind (arith, nat_tests)
+
+last_test : (a b c : Bool) → a ≡ false → b ≡ false → c ≡ (a || b || c)
+last_test true b c first second = cc
+last_test false true c first second = cc
+last_test false false c first second = refl
+
+-- a byte that is no space and no tab
+pub other_blank : (b : ℕ) → (b ≢ 32) × (b ≢ 9) → eqb b 13 ≡ is_blank b
+other_blank b apart = last_test (eqb b 32) (eqb b 9) (eqb b 13) (apart_test b 32 apart.0) (apart_test b 9 apart.1)
+
+-- a blank at the start
+pub blank_first : (text : List ℕ) → true ≡ begins_blank text → fields_of (take (length text - 1) (drop 1 text)) ≡ fields_of text
+blank_first [] begins = refl
+blank_first (b ∷ text) begins =
+    ap fields_of (rest_is (b ∷ text) 1)
+    ∙ ap (λ c. cond c (fields_of text) (cond (begins_blank text) ((b ∷ []) ∷ fields_of text) (onto_first b (fields_of text)))) begins
+
+pub comment_is : (line : List ℕ) → 0 < length line → get_or line 0 0 ≡ 42 → kept_fields line ≡ []
+comment_is [] some at = absurd (omega arith)
+comment_is (b ∷ bytes) some at = ap (λ c. cond c [] (fields_of (b ∷ bytes))) (eq-eqb _ _ at)
+
+-- one more word behind those that were found
+pub words_pushed : (found next : List (Bor (List ℕ))) (first : Bor (List ℕ)) (others : List Word) → next ≡ found ++ first ∷ []
+    → words next ++ others ≡ words found ++ first.now ∷ others
+words_pushed found next first others is =
+    ap (λ ws. words ws ++ others) is ∙ ap (λ ws. ws ++ others) (map-append word found (first ∷ [])) ∙ append_assoc (words found) (first.now ∷ []) others
+
+zero_is : (n : ℕ) → true ≡ (n == 0) → n ≡ 0
+zero_is n e = grind (arith, nat_tests)
+
+-- nothing is left to be found
+pub all_found : (f : List ℕ → List Word) (found : List Word) (rest whole : List ℕ) → f [] ≡ [] → true ≡ (length rest == 0) → found ++ f rest ≡ f whole → found ≡ f whole
+all_found f found [] whole none e is = sym (ap (λ others. found ++ others) none ∙ append-nil found) ∙ is
+all_found f found (b ∷ rest) whole none e is = let zero = zero_is (length (b ∷ rest)) e in absurd (omega arith)

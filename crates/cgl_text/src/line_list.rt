@@ -11,6 +11,9 @@ use std::marker::Model;
 /// The most bytes of a text that is read line by line.
 pub const MOST_BYTES: usize = 1 << 30;
 
+/// What ends a line.
+const NEWLINE: u8 = b'\n';
+
 /// The place of the first LF, or the length.
 fn line_end(bytes: &[u8]) -> usize
     ensures within { result ≤ length bytes.now }
@@ -18,7 +21,7 @@ fn line_end(bytes: &[u8]) -> usize
     ensures at { result < length bytes.now → slice_index bytes.now result ≡ 10 }
 {
     for (i, b) in bytes.iter().enumerate() {
-        if *b == 10 {
+        if *b == NEWLINE {
             return i;
         }
     }
