@@ -136,6 +136,12 @@ impl MemShelf {
         fault
     }
 
+    fn fail_read(&mut self)
+        ensures { self.new ≡ with_read_fault self.old }
+    {
+        self.failed_reads = self.failed_reads.saturating_add(1);
+    }
+
     fn fail_write(&mut self)
         ensures { self.new ≡ with_write_fault self.old }
     {
@@ -153,7 +159,7 @@ impl MemShelf {
         ensures ok { OnOk result (self.new ≡ record self.old { files = map.insert self.old.files name.now [] }) }
         ensures err { OnErr result (self.new ≡ with_write_refused self.old) }
     {
-        match put(self.alloc, &mut self.files, name, &[]) {
+        match self.put_file(name, &[]) {
             Ok(()) => Ok(()),
             Err(_) => {
                 self.refuse_write();
@@ -162,7 +168,6 @@ impl MemShelf {
         }
     }
 
-    #[tactic(auto, unfolding(crate::specs::Shelf::file_of))]
     fn add_all(&mut self, name: &str, bytes: &[u8]) -> Result<(), Failed>
         ensures ok { OnOk result (Some self.new.files ≡ with_more (Some self.old.files) name.now bytes.now) }
         ensures rest { OnOk result (self.new ≡ record self.old { files = self.new.files }) }
@@ -182,7 +187,6 @@ impl MemShelf {
     }
 
     /// The append is to fail, and this front of its bytes is kept.
-    #[tactic(auto, unfolding(crate::specs::Shelf::file_of))]
     fn add_front(&mut self, name: &str, front: &[u8])
         ensures lacking { Lacks (Some self.old.files) name.now → self.new ≡ self.old }
         ensures files { (self.new.files ≡ self.old.files) ⊎ (Some self.new.files ≡ with_more (Some self.old.files) name.now front.now) }
@@ -207,7 +211,6 @@ impl Shelf for MemShelf {
 
     ghost failed_writes = { λ s. s.failed_writes };
 
-    #[tactic(auto, unfolding(crate::specs::Shelf::file_of), using(crate::proofs::FilesRules::read_piece))]
     fn read_at(&mut self, name: &str, at: u64, buf: &mut [u8]) -> Result<usize, Failed>
         requires { 0 < length buf.old }
         ensures within { IfOk result (λ n. n ≤ length buf.new) }
@@ -222,17 +225,16 @@ impl Shelf for MemShelf {
             → IsSome (next_read self.old) × (self.new ≡ with_read_fault (with_read self.old))) }
     {
         let is_listed = self.begin_read();
-        let Some(file) = look_up(&self.files, name) else {
+        let Some(file) = self.file(name) else {
             return Err(Failed);
         };
         if is_listed {
-            self.failed_reads = self.failed_reads.saturating_add(1);
+            self.fail_read();
             return Err(Failed);
         }
         Ok(copy_piece(file, at, buf))
     }
 
-    #[tactic(auto, unfolding(crate::specs::Shelf::with_file))]
     fn create(&mut self, name: &str) -> Result<(), Failed>
         ensures ok { OnOk result (Some self.new.files ≡ with_file (Some self.old.files) name.now []) }
         ensures err { OnErr result (Some self.new.files ≡ Some self.old.files ⊎ (Some self.new.files ≡ with_file (Some self.old.files) name.now [])) }
@@ -250,7 +252,6 @@ impl Shelf for MemShelf {
         self.make_empty(name)
     }
 
-    #[tactic(auto, unfolding(crate::specs::Shelf::file_of), using(crate::proofs::FilesRules::none_kept))]
     fn append(&mut self, name: &str, bytes: &[u8]) -> Result<(), Failed>
         ensures ok { OnOk result (Some self.new.files ≡ with_more (Some self.old.files) name.now bytes.now) }
         ensures found { OnOk result (IsSome (Some self.old.files) → IsSome (file_of (Some self.old.files) name.now)) }

@@ -81,7 +81,6 @@ impl Shelf for SureShelf {
 
     ghost failed_writes = { λ s. s.refused };
 
-    #[tactic(auto, unfolding(crate::specs::Shelf::file_of), using(crate::proofs::FilesRules::read_piece))]
     fn read_at(&mut self, name: &str, at: u64, buf: &mut [u8]) -> Result<usize, Failed>
         requires { 0 < length buf.old }
         ensures within { IfOk result (λ n. n ≤ length buf.new) }
@@ -93,20 +92,19 @@ impl Shelf for SureShelf {
         ensures reads { Counts 0 0 result (Lacks (Some self.old.files) name.now) }
         ensures writes { self.new.refused ≡ self.old.refused }
     {
-        match look_up(&self.files, name) {
-            Some(file) => Ok(copy_piece(file, at, buf)),
-            None => Err(Failed),
-        }
+        let Some(file) = self.file(name) else {
+            return Err(Failed);
+        };
+        Ok(copy_piece(file, at, buf))
     }
 
-    #[tactic(auto, unfolding(crate::specs::Shelf::with_file))]
     fn create(&mut self, name: &str) -> Result<(), Failed>
         ensures ok { OnOk result (Some self.new.files ≡ with_file (Some self.old.files) name.now []) }
         ensures err { OnErr result (Some self.new.files ≡ Some self.old.files ⊎ (Some self.new.files ≡ with_file (Some self.old.files) name.now [])) }
         ensures refused { OnErr result (self.new ≡ with_refusal self.old) }
         ensures writes { Counts self.old.refused self.new.refused result ⊥ }
     {
-        match put(self.alloc, &mut self.files, name, &[]) {
+        match self.put_file(name, &[]) {
             Ok(()) => Ok(()),
             Err(_) => {
                 self.refused = self.refused.saturating_add(1);
@@ -115,7 +113,6 @@ impl Shelf for SureShelf {
         }
     }
 
-    #[tactic(auto, unfolding(crate::specs::Shelf::file_of), using(crate::proofs::FilesRules::none_kept))]
     fn append(&mut self, name: &str, bytes: &[u8]) -> Result<(), Failed>
         ensures ok { OnOk result (Some self.new.files ≡ with_more (Some self.old.files) name.now bytes.now) }
         ensures found { OnOk result (IsSome (Some self.old.files) → IsSome (file_of (Some self.old.files) name.now)) }

@@ -1,8 +1,8 @@
-use Rattle.std.proofs.Common.{arith, rules, ◌≡◌, ◌∙◌, ◌⊎◌, ◌+◌, ◌<◌, ◌≤◌, ◌-◌, ap, refl, sym, inl, inr, length, length-take, min, take, ℕ, List, Ok, Err, IsErrOf, Vec, vec_len}
+use Rattle.std.proofs.Common.{arith, rules, ◌≡◌, ◌∙◌, ◌⊎◌, ◌+◌, ◌<◌, ◌≤◌, ◌-◌, ap, refl, sym, inl, inr, length, length-take, min, take, ℕ, List, Err, IsErrOf}
 use Rattle.cgl_outside.specs.declared.errors.FetchError.{FetchError}
-use Rattle.cgl_outside.specs.declared.errors.FetchError.TheVariants.{ReadFault, Memory}
-use Rattle.std.specs.declared.alloc.Global.{Global}
-use Rattle.cgl_outside.proofs.ShelfRules.{front_read}
+use Rattle.cgl_outside.specs.declared.errors.FetchError.TheVariants.{ReadFault}
+use Rattle.cgl_outside.proofs.CountRules.{same_later}
+use Rattle.cgl_outside.proofs.ShelfRules.{front_read, len_is, ok_no_fault, memory_no_fault}
 use Rattle.cgl_outside.proofs.whole.read_front.Goals as goal
 
 -- the room for a piece, which is within its buffer and not empty
@@ -15,24 +15,12 @@ room_kept : (room size most len at now : ℕ) (buf : List ℕ) → room ≡ min 
     → now ≤ at + length (take room buf) → now ≤ most
 room_kept room size most len at now buf is e kept le = let n = length-take room buf in omega arith
 
-len_is : (v : Vec ℕ Global) (n : ℕ) → n ≡ vec_len v → n ≡ length v.items
-len_is v n e = omega (arith, v.ok)
-
 -- all of the room was taken
 all_read : (len at most : ℕ) → len ≡ at → most ≤ len → at ≤ most → at ≡ most
 all_read len at most e end kept = omega arith
 
 some_read : (at most : ℕ) → at ≡ most → 0 < most → 0 < at
 some_read at most e some = omega arith
-
-same_later : (before now : ℕ) → now ≡ before → before ≤ now
-same_later before now e = omega arith
-
-ok_no_fault : {T P : Type 0} {x : T} → IsErrOf (Ok x) ReadFault → P
-ok_no_fault e = absurd (cc)
-
-memory_no_fault : {T P : Type 0} → IsErrOf {T = T} (Err Memory) ReadFault → P
-memory_no_fault e = absurd (cc)
 
 same_err : {T U : Type 0} {e : FetchError} → IsErrOf {T = U} (Err e) ReadFault → IsErrOf {T = T} (Err e) ReadFault
 same_err is = cc
@@ -44,9 +32,9 @@ err_same (inr same) = inr same
 
 pub returns-in_default : goal.returns-in_default
 returns-in_default g c = record {
-  front = search rules;
-  found = search rules;
-  small = search rules;
+  front = tt;
+  found = tt;
+  small = tt;
   read_fault = memory_no_fault;
   reads = inr refl;
   later = same_later _ _ refl;
@@ -60,9 +48,9 @@ returns-in-Err g c =
     let before = c.pieces.invariant in
     let reads = rw (before.reads, before.held) at c.in-Err.ensures.reads in
     record {
-      front = search rules;
-      found = search rules;
-      small = search rules;
+      front = tt;
+      found = tt;
+      small = tt;
       read_fault = λ e. reads.read_fault (same_err e);
       reads = err_same reads.reads;
       later = reads.later;

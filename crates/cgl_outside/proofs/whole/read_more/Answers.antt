@@ -1,33 +1,47 @@
-use Rattle.std.proofs.Common.{arith, ◌+◌, length, take, ◌≡◌, ◌++◌, ◌≤◌, length-append, length-take, ap, refl, subst, inl, inr}
+use Rattle.std.proofs.Common.{◌+◌, length, take, ◌≡◌, ◌≤◌, refl, subst, inl, inr}
 use Rattle.cgl_outside.specs.Shelf.{IsPiece}
-use Rattle.cgl_outside.proofs.ShelfRules.{more_read}
+use Rattle.cgl_outside.proofs.ShelfRules.{len_is, ok_no_fault, memory_no_fault, more_within, more_read, is_more, whole_read, more_length}
 use Rattle.cgl_outside.proofs.whole.read_more.Goals as goal
 
-pub returns-in_default-clause-reads : goal.returns-in_default-clause-reads
-returns-in_default-clause-reads g c =
-    let counts = c.in_default.ensures.reads in
-    record { ok = tt; read_fault = λ _. counts.failed; reads = inl refl; later = counts.later; excused = counts.excused }
-
-pub returns-in_default-extend_from_slice-clause-reads : goal.returns-in_default-extend_from_slice-clause-reads
-returns-in_default-extend_from_slice-clause-reads g c =
-    let counts = c.in-Ok.ensures.reads in
-    record { ok = tt; read_fault = λ e. absurd (cc); reads = inr counts.ok; later = counts.later; excused = counts.excused }
-
-pub returns-clause-reads : goal.returns-clause-reads
-returns-clause-reads g c =
-    let counts = c.in-Ok.ensures.reads in
-    record { ok = counts.ok; read_fault = λ e. absurd (cc); reads = inr counts.ok; later = counts.later; excused = counts.excused }
-
-pub returns-clause-more : goal.returns-clause-more
-returns-clause-more g c =
-    let at : c.len.result ≡ length c.args.bytes.now.items = omega (arith, c.len.ensures, c.args.bytes.now.ok) in
-    let within : c.in-Ok.count ≤ length c.read_at.new.buf = c.in-Ok.ensures.within in
-    let items : c.extend_from_slice.new.self.items ≡ c.args.bytes.now.items ++ take c.in-Ok.count c.read_at.new.buf = c.in-Ok-extend_from_slice.ensures.items in
-    let len : length c.extend_from_slice.new.self.items ≡ length c.args.bytes.now.items + c.in-Ok.count =
-    omega (arith, ap length items, length-append c.args.bytes.now.items (take c.in-Ok.count c.read_at.new.buf), length-take c.in-Ok.count c.read_at.new.buf) in
+pub returns-in_default : goal.returns-in_default
+returns-in_default g c =
+    let says = c.in_default.ensures in
     record {
-      more = grind arith;
-      front = λ file is front. more_read file _ _ _ _ c.in-Ok.count front refl len (subst (λ k. IsPiece file k c.read_at.new.buf c.in-Ok.count) at (c.in-Ok.ensures.piece file is)) items;
-      whole = λ file is none. let ended = (c.in-Ok.ensures.piece file is).ended in grind arith;
-      found = c.in-Ok.ensures.found;
+      held = says.held;
+      writes = says.writes;
+      more = tt;
+      reads = record { ok = tt; read_fault = λ _. says.reads.failed; reads = inl refl; later = says.reads.later; excused = says.reads.excused };
+      within = tt;
+    }
+
+pub returns-in_default-extend_from_slice : goal.returns-in_default-extend_from_slice
+returns-in_default-extend_from_slice g c =
+    let says = c.in-Ok.ensures in
+    record {
+      held = says.held;
+      writes = says.writes;
+      more = tt;
+      reads = record { ok = tt; read_fault = memory_no_fault; reads = inr says.reads.ok; later = says.reads.later; excused = says.reads.excused };
+      within = tt;
+    }
+
+pub returns : goal.returns
+returns g c =
+    let says = c.in-Ok.ensures in
+    let bytes = c.args.bytes.now.items in
+    let at : c.len.result ≡ length bytes = len_is c.args.bytes.now _ c.len.ensures in
+    let within : c.in-Ok.count ≤ length c.read_at.new.buf = says.within in
+    let items = c.in-Ok-extend_from_slice.ensures.items in
+    let len : length c.extend_from_slice.new.self.items ≡ length bytes + c.in-Ok.count = more_length _ _ _ _ within items in
+    record {
+      held = says.held;
+      writes = says.writes;
+      more = record {
+        more = is_more _ _ _ len;
+        front = λ file is front. more_read file _ _ _ _ c.in-Ok.count front refl len (subst (λ k. IsPiece file k c.read_at.new.buf c.in-Ok.count) at (says.piece file is)) items;
+        whole = λ file is none. whole_read _ _ _ _ len (subst (λ k. c.in-Ok.count ≡ 0 → length file ≤ k) at (says.piece file is).ended) none;
+        found = says.found;
+      };
+      reads = record { ok = says.reads.ok; read_fault = ok_no_fault; reads = inr says.reads.ok; later = says.reads.later; excused = says.reads.excused };
+      within = more_within _ _ _ _ _ len within c.read_at.auto.buf;
     }

@@ -1,14 +1,36 @@
-use Rattle.std.proofs.Common.{arith, ◌≤◌, ◌∙◌, ◌⊎◌, inl, inr}
-use Rattle.cgl_outside.proofs.ShelfRules.{not_lacking, more_written, part_written}
+use Rattle.std.proofs.Common.{arith, ◌≤◌, ◌∙◌, inr}
+use Rattle.cgl_outside.proofs.CountRules.{no_excuse, same_later}
+use Rattle.cgl_outside.proofs.ShelfRules.{not_lacking, more_written, part_written, none_written, all_written}
 use Rattle.cgl_outside.proofs.whole.write_whole.Goals as goal
 
-without : {A B : Type 0} → (B → ⊥) → A ⊎ B → A
-without never (inl a) = a
-without never (inr b) = absurd (never b)
+pub returns-in_default : goal.returns-in_default
+returns-in_default g c =
+    let counts = c.in_default.ensures.writes in
+    record {
+      ok = tt;
+      stands = none_written _ _ _ _ c.in_default.ensures.err;
+      fault = no_excuse (λ never. never) counts.failed;
+      ok_writes = tt;
+      later = counts.later;
+      reads = c.in_default.ensures.reads;
+    }
 
-pub returns-in_default-append-clause-fault : goal.returns-in_default-append-clause-fault
-returns-in_default-append-clause-fault g c =
-    let before = c.pieces.invariant in rw before.writes at (without (not_lacking _ _ _ _ before.held) c.in_default-append.ensures.writes.failed)
+pub pieces-init : goal.pieces-init
+pieces-init g c = record { place = omega arith; held = c.in-Ok.ensures.ok; writes = c.in-Ok.ensures.writes.ok; reads = c.in-Ok.ensures.reads }
+
+pub returns-in_default-append : goal.returns-in_default-append
+returns-in_default-append g c =
+    let before = c.pieces.invariant in
+    let counts = rw before.writes at c.in_default-append.ensures.writes in
+    let err = c.in_default-append.ensures.err in
+    record {
+      ok = tt;
+      stands = inr (part_written _ _ _ _ _ _ err.0 _ before.held err.1);
+      fault = no_excuse (not_lacking _ _ _ _ before.held) counts.failed;
+      ok_writes = tt;
+      later = counts.later;
+      reads = c.in_default-append.ensures.reads ∙ before.reads;
+    }
 
 pub pieces-preserved : goal.pieces-preserved
 pieces-preserved g c =
@@ -20,7 +42,17 @@ pieces-preserved g c =
       reads = c.in-Ok-append.ensures.reads ∙ c.pieces.invariant.reads;
     }
 
-pub returns-in_default-append-clause-stands : goal.returns-in_default-append-clause-stands
-returns-in_default-append-clause-stands g c =
-    let err = c.in_default-append.ensures.err in
-    inr (part_written _ _ _ _ _ _ err.0 _ c.pieces.invariant.held err.1)
+pub pieces-smaller : goal.pieces-smaller
+pieces-smaller g c = omega (arith, c.min-end.ensures, c.pieces-test.true)
+
+pub returns : goal.returns
+returns g c =
+    let before = c.pieces.invariant in
+    record {
+      ok = all_written _ _ _ _ _ before.held (omega arith);
+      stands = tt;
+      fault = tt;
+      ok_writes = before.writes;
+      later = same_later _ _ before.writes;
+      reads = before.reads;
+    }

@@ -1,0 +1,82 @@
+-- What a result says, case by case, and the counts of failed calls.
+use Rattle.std.proofs.Common.{Bool, false, IsTrue, ◌≡◌, ◌⊎◌, inl, inr, ℕ, List, ◌≤◌, Result, Ok, Err, OnOk, OnErr, Option, Some, None, IsSome, arith, refl}
+use Rattle.std.specs.Option.{IsNone}
+use Rattle.cgl_outside.specs.Shelf.{Files, Held, file_of, Lacks, Counts, Rose, risen}
+
+pub on_ok : {T E A B : Type 0} (result : Result T E) → (A → B) → OnOk result A → OnOk result B
+on_ok (Ok value) step a = step a
+on_ok (Err error) step a = tt
+
+pub on_err : {T E A B : Type 0} (result : Result T E) → (A → B) → OnErr result A → OnErr result B
+on_err (Ok value) step a = tt
+on_err (Err error) step a = step a
+
+pub on_both : {T E A : Type 0} (result : Result T E) → OnOk result A → OnErr result A → A
+on_both (Ok value) ok err = ok
+on_both (Err error) ok err = err
+
+pub some_not_none : {A : Type 0} (o : Option A) → IsSome o → IsNone o → ⊥
+some_not_none None some none = cc
+some_not_none (Some a) some none = cc
+
+pub not_some : {A : Type 0} (o : Option A) → (IsSome o → ⊥) → IsNone o
+not_some None never = refl
+not_some (Some a) never = absurd (never refl)
+
+pub false_not_true : (b : Bool) → b ≡ false → IsTrue b → ⊥
+false_not_true b is_false is_true = cc
+
+pub none_untold : {B : Type 0} → IsSome {T = Files} None → B
+none_untold told = absurd (cc)
+
+pub found_by : {A : Type 0} (o : Option A) (a : A) → Some a ≡ o → IsSome o
+found_by None a e = cc
+found_by (Some b) a e = refl
+
+pub none_is : {A : Type 0} (o : Option A) → None ≡ o → IsNone o
+none_is None e = refl
+none_is (Some a) e = cc
+
+pub no_excuse : {A B : Type 0} → (B → ⊥) → A ⊎ B → A
+no_excuse never (inl a) = a
+no_excuse never (inr b) = absurd (never b)
+
+pub same_later : (before now : ℕ) → now ≡ before → before ≤ now
+same_later before now e = omega arith
+
+-- a file that is lacking is not there
+pub not_found : (held : Held) (name : List ℕ) → Lacks held name → IsSome (file_of held name) → ⊥
+not_found held name lacks found = let none = lacks.none in cc
+
+by_option : {A : Type 0} {X : Type 0} (o : Option X) → (IsSome o → A) → (o ≡ None → A) → A
+by_option None found lacking = lacking refl
+by_option (Some x) found lacking = found refl
+
+-- the file is there, or lacking
+pub by_file : {A : Type 0} (held : Held) (name : List ℕ) → IsSome held → (IsSome (file_of held name) → A) → (Lacks held name → A) → A
+by_file held name told found lacking = by_option (file_of held name) found (λ none. lacking record { told = told; none = none })
+
+pub lacks_by : (files : Files) (name : List ℕ) → (IsSome (file_of (Some files) name) → ⊥) → Lacks (Some files) name
+lacks_by files name never = by_file (Some files) name refl (λ found. absurd (never found)) (λ lacks. lacks)
+
+-- the call was let through
+pub no_fault : {T E : Type 0} {value : T} {excuse : Type 0} (before now : ℕ) → now ≡ before → Counts {T = T} {E = E} before now (Ok value) excuse
+no_fault before now same = record { later = omega arith; ok = same; failed = tt; excused = λ _. same }
+
+-- the call failed, and no file was lacking
+pub one_fault : {T E : Type 0} {error : E} {excuse : Type 0} (before now : ℕ) → now ≡ risen before → (excuse → ⊥) → Counts {T = T} {E = E} before now (Err error) excuse
+one_fault before now rose never = record { later = omega arith; ok = tt; failed = inl (omega arith); excused = λ e. absurd (never e) }
+
+-- the file was lacking
+pub excused : {T E : Type 0} {error : E} {excuse : Type 0} (before now : ℕ) → now ≡ before → excuse → Counts {T = T} {E = E} before now (Err error) excuse
+excused before now same is = record { later = omega arith; ok = tt; failed = inr is; excused = λ _. same }
+
+pub counted : {T E : Type 0} (result : Result T E) (before now : ℕ) → OnOk result (now ≡ before) → OnErr result (now ≡ risen before) → Counts before now result ⊥
+counted (Ok value) before now same rose = no_fault before now same
+counted (Err error) before now same rose = one_fault before now rose (λ e. e)
+
+pub counted_there : {T E : Type 0} (result : Result T E) (held : Held) (name : List ℕ) (before now : ℕ) → IsSome held → OnOk result (now ≡ before)
+    → OnErr result (IsSome (file_of held name) → now ≡ risen before) → (Lacks held name → now ≡ before) → Counts before now result (Lacks held name)
+counted_there (Ok value) held name before now told same rose lacking = no_fault before now same
+counted_there (Err error) held name before now told same rose lacking =
+    by_file held name told (λ found. one_fault before now (rose found) (λ lacks. not_found held name lacks found)) (λ lacks. excused before now (lacking lacks) lacks)
