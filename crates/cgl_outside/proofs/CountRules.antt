@@ -59,17 +59,20 @@ by_file held name told found lacking = by_option (file_of held name) found (λ n
 pub lacks_by : (files : Files) (name : List ℕ) → (IsSome (file_of (Some files) name) → ⊥) → Lacks (Some files) name
 lacks_by files name never = by_file (Some files) name refl (λ found. absurd (never found)) (λ lacks. lacks)
 
+rises : (n : ℕ) → n ≤ risen n
+rises n = omega arith
+
 -- the call was let through
 pub no_fault : {T E : Type 0} {value : T} {excuse : Type 0} (before now : ℕ) → now ≡ before → Counts {T = T} {E = E} before now (Ok value) excuse
-no_fault before now same = record { later = omega arith; ok = same; failed = tt; excused = λ _. same }
+no_fault before now same = record { later = same_later before now same; ok = same; failed = tt; excused = λ _. same }
 
 -- the call failed, and no file was lacking
 pub one_fault : {T E : Type 0} {error : E} {excuse : Type 0} (before now : ℕ) → now ≡ risen before → (excuse → ⊥) → Counts {T = T} {E = E} before now (Err error) excuse
-one_fault before now rose never = record { later = omega arith; ok = tt; failed = inl (omega arith); excused = λ e. absurd (never e) }
+one_fault before now rose never = record { later = rw rose (rises before); ok = tt; failed = inl (same_later (risen before) now rose); excused = λ e. absurd (never e) }
 
 -- the file was lacking
 pub excused : {T E : Type 0} {error : E} {excuse : Type 0} (before now : ℕ) → now ≡ before → excuse → Counts {T = T} {E = E} before now (Err error) excuse
-excused before now same is = record { later = omega arith; ok = tt; failed = inr is; excused = λ _. same }
+excused before now same is = record { later = same_later before now same; ok = tt; failed = inr is; excused = λ _. same }
 
 pub counted : {T E : Type 0} (result : Result T E) (before now : ℕ) → OnOk result (now ≡ before) → OnErr result (now ≡ risen before) → Counts before now result ⊥
 counted (Ok value) before now same rose = no_fault before now same
