@@ -1,7 +1,7 @@
 -- What a result says, case by case, and the counts of failed calls.
 use Rattle.std.proofs.Common.{Bool, false, IsTrue, ◌≡◌, ◌⊎◌, inl, inr, ℕ, List, ◌≤◌, Result, Ok, Err, OnOk, OnErr, Option, Some, None, IsSome, arith, refl}
 use Rattle.std.specs.Option.{IsNone}
-use Rattle.cgl_outside.specs.Shelf.{Files, Held, file_of, Lacks, Counts, Rose, risen}
+use Rattle.cgl_outside.specs.Shelf.{Files, Held, file_of, Lacks, Counts, risen}
 
 pub on_ok : {T E A B : Type 0} (result : Result T E) → (A → B) → OnOk result A → OnOk result B
 on_ok (Ok value) step a = step a

@@ -1,5 +1,5 @@
 -- The states of files in memory, one call after another.
-use Rattle.std.proofs.Common.{◌≡◌, ◌⊎◌, inl, inr, ℕ, List, take, Some, IsSome, sym, ap, ◌∙◌}
+use Rattle.std.proofs.Common.{◌≡◌, ◌⊎◌, inl, inr, ℕ, List, take, Some, sym, ap, ◌∙◌}
 use Rattle.cgl_outside.specs.Shelf.{Files, risen, with_more}
 use Rattle.cgl_outside.specs.MemShelf.{MemFiles, KeepsFront, next_append, with_append, with_write_fault, with_write_refused, with_read_fault}
 use Rattle.cgl_outside.proofs.FilesRules.{none_kept}

@@ -1,6 +1,6 @@
 -- The same laws in the form that goals have, under names that a tactic attribute can cite.
 use Rattle.std.proofs.lemmas.Bool.Decides.{nat_tests}
-use Rattle.std.proofs.Common.{Ok, Err, IsErrOf, Vec, vec_len, ◌⊎◌, inl, inr, ◌↔◌, ◌<◌, IsTrue, nat_lt, false, length-append, length-take, zero, suc, [], ◌∷◌, ◌≡◌, List, ℕ, ◌++◌, take, ◌≤◌, drop, ◌+◌, ◌-◌, ◌∙◌, ap, sym, subst, None, IsSome, refl, length, arith}
+use Rattle.std.proofs.Common.{Ok, Err, IsErrOf, Vec, vec_len, ◌⊎◌, inl, inr, ◌↔◌, ◌<◌, IsTrue, nat_lt, false, length-append, zero, suc, [], ◌∷◌, ◌≡◌, List, ℕ, ◌++◌, take, ◌≤◌, drop, ◌+◌, ◌-◌, ◌∙◌, ap, sym, subst, None, IsSome, refl, length, arith}
 use Rattle.std.proofs.lemmas.List.{take_all, length-take-le}
 use Rattle.std.proofs.Math.Seq.{take-add}
 use Rattle.std.specs.declared.alloc.Global.{Global}

@@ -1,4 +1,4 @@
-use Rattle.std.proofs.Common.{◌+◌, length, take, ◌≡◌, ◌≤◌, refl, subst, inl, inr}
+use Rattle.std.proofs.Common.{◌+◌, length, ◌≡◌, ◌≤◌, refl, subst, inl, inr}
 use Rattle.cgl_outside.specs.Shelf.{IsPiece}
 use Rattle.cgl_outside.proofs.ShelfRules.{len_is, ok_no_fault, memory_no_fault, more_within, more_read, is_more, whole_read, more_length}
 use Rattle.cgl_outside.proofs.whole.read_more.Goals as goal

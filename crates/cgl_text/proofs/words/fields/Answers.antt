@@ -1,5 +1,4 @@
 use Rattle.std.proofs.Common.{ap, sym, refl, ◌∙◌, ◌++◌}
-use Rattle.cgl_num.specs.NumberText.{Word}
 use Rattle.cgl_text.specs.Seen.{words}
 use Rattle.cgl_text.specs.Text.{fields_of}
 use Rattle.cgl_text.proofs.TextLaws.{blank_first, words_pushed, all_found}

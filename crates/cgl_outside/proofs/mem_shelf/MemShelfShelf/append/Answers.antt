@@ -1,6 +1,5 @@
 use Rattle.std.proofs.Common.{ap, ◌∙◌, refl, Some, inl}
 use Rattle.cgl_outside.specs.MemShelf.{MemFiles, next_append}
-use Rattle.cgl_outside.specs.Shelf.{file_of}
 use Rattle.cgl_outside.proofs.CountRules.{on_ok, on_err, on_both, none_is, by_file, counted_there}
 use Rattle.cgl_outside.proofs.FilesRules.{none_kept}
 use Rattle.cgl_outside.proofs.MemShelfRules.{front_kept, front_fault, front_count, front_reads}

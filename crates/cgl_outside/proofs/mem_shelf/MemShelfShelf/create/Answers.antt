@@ -1,7 +1,5 @@
-use Rattle.std.proofs.Common.{ap, ◌∙◌, Some, IsSome, false, true, inl, [], OnOk, OnErr, ◌≡◌}
-use Rattle.std.specs.Option.{IsNone}
-use Rattle.std.specs.FinMap as map
-use Rattle.cgl_outside.specs.MemShelf.{MemFiles, next_create, with_create, with_write_fault, with_write_refused}
+use Rattle.std.proofs.Common.{ap, ◌∙◌, Some, inl}
+use Rattle.cgl_outside.specs.MemShelf.{MemFiles, next_create, with_create, with_write_fault}
 use Rattle.cgl_outside.specs.Shelf.{with_file}
 use Rattle.cgl_outside.proofs.CountRules.{on_ok, on_err, on_both, false_not_true, some_not_none, not_some, one_fault, counted}
 use Rattle.cgl_outside.proofs.MemShelfRules.{files_named}
