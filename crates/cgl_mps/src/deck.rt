@@ -20,7 +20,7 @@ use std::alloc::Global;
 use thiserror::Error;
 
 /// Why a text gives no model.
-#[derive(Clone, Copy, Debug, Error)]
+#[derive(Clone, Copy, Debug, PartialEq, Eq, Error)]
 pub enum DeckError {
     /// The text is no deck: its first bad line, counted from 1, and the kind of that line's first
     /// fault. The kind is 1 (an unknown header), 2 (order), 3 (fields), 4 (a number), 5 (an unknown
