@@ -2,6 +2,8 @@
 //! and what they take. Where memory is refused, a part of the answer is lacking.
 #![tactic(auto)]
 
+ghost use Rattle.std.specs.Prelude.{◌≤◌, length, ◌^◌};
+
 mod bytes;
 mod models;
 mod numbers;
@@ -9,7 +11,7 @@ mod points;
 mod runs;
 mod violations;
 
-use bytes::put;
+use bytes::{bytes_of, put};
 use cgl_outside::{SureShelf, SureSink};
 use std::alloc::Global;
 use std::io;
@@ -52,6 +54,25 @@ fn case_of(word: &str) -> Case {
     Case::File
 }
 
+fn tell_bytes(
+    alloc: Global,
+    out: &mut SureSink,
+    files: &mut SureShelf,
+    case: Case,
+    word: &str,
+    bytes: &[u8],
+)
+    requires { length bytes.now ≤ 2 ^ 20 }
+{
+    match case {
+        Case::Point => points::tell(alloc, out, bytes),
+        Case::Sides | Case::Text => models::tell(alloc, out, files, case, bytes),
+        _ => {
+            let _done = files.put_file(word, bytes);
+        }
+    }
+}
+
 fn tell(alloc: Global, out: &mut SureSink, files: &mut SureShelf, line: &str) {
     let (word, rest) = line.split_once(' ').unwrap_or((line, ""));
     let case = case_of(word);
@@ -60,26 +81,28 @@ fn tell(alloc: Global, out: &mut SureSink, files: &mut SureShelf, line: &str) {
         Case::Sums => numbers::tell_sums(out, rest),
         Case::Number => numbers::tell_number(out, rest),
         Case::Violation => violations::tell(alloc, out, rest),
-        Case::Point => points::tell(alloc, out, rest),
-        Case::Sides | Case::Text => models::tell(alloc, out, case, rest),
         Case::Run => runs::tell_run(alloc, out, files, rest),
         Case::SureRun => runs::tell_sure_run(alloc, out, files, rest),
-        Case::File => runs::put_file(alloc, files, word, rest),
+        _ => {
+            if let Some(bytes) = bytes_of(alloc, rest) {
+                tell_bytes(alloc, out, files, case, word, &bytes);
+            }
+        }
     }
 }
 
-fn tell_all(alloc: Global, out: &mut SureSink, lines: &str) {
-    let mut files = SureShelf::new(alloc);
+fn tell_all(alloc: Global, out: &mut SureSink, files: &mut SureShelf, lines: &str) {
     for line in lines.lines() {
         put(out, line);
-        tell(alloc, out, &mut files, line);
+        tell(alloc, out, files, line);
         put(out, "\n");
     }
 }
 
 fn main(rt: HostRuntime) -> io::Result<()> {
     let lines = io::read_to_string(rt.alloc(), rt.stdin())?;
+    let mut files = SureShelf::new(rt.alloc());
     let mut out = SureSink::new(rt.alloc());
-    tell_all(rt.alloc(), &mut out, &lines);
+    tell_all(rt.alloc(), &mut out, &mut files, &lines);
     rt.stdout().write_all(out.bytes())
 }

@@ -3,8 +3,8 @@ ghost use Rattle.std.specs.Prelude.{◌≤◌, length, ◌^◌};
 ghost use Rattle.cgl_model.specs.Valid.{IsValid};
 
 use crate::Case;
-use crate::bytes::{bytes_of, put, put_line};
-use crate::numbers::put_whole;
+use crate::bytes::{put, put_line};
+use crate::numbers::{put_labelled, put_whole};
 use crate::points::put_bad_line;
 use cgl_deck::{cut_names, deck_len, deck_text, write_deck};
 use cgl_model::{End, Forms, Model, Place, Side};
@@ -15,13 +15,10 @@ use std::alloc::Global;
 fn put_side(out: &mut SureSink, side: &Side) {
     put(out, ":");
     for (column, coefficient) in side.ineq.terms.as_slice() {
-        put(out, " ");
-        put_whole(out, *coefficient);
-        put(out, " x");
-        put_whole(out, *column as i128);
+        put_labelled(out, " ", *coefficient);
+        put_labelled(out, " x", *column as i128);
     }
-    put(out, " >= ");
-    put_whole(out, side.ineq.rhs);
+    put_labelled(out, " >= ", side.ineq.rhs);
 }
 
 /// Tells the number of the side at a place, and the side, if there is one.
@@ -63,71 +60,55 @@ fn put_ends(out: &mut SureSink, forms: &Forms, lower: Place, upper: Place) {
     put_place(out, forms, upper);
 }
 
-fn put_row(out: &mut SureSink, forms: &Forms, row: u32) {
-    put(out, "\n  row ");
-    put_whole(out, row as i128);
-    put_ends(
-        out,
-        forms,
-        Place::Row(row, End::Lower),
-        Place::Row(row, End::Upper),
-    );
-    put_form(out, forms, row);
-}
-
-fn put_column(out: &mut SureSink, forms: &Forms, column: u32) {
-    put(out, "\n  column ");
-    put_whole(out, column as i128);
-    put_ends(
-        out,
-        forms,
-        Place::Bound(column, End::Lower),
-        Place::Bound(column, End::Upper),
-    );
-}
-
-/// Tells the number of sides, and then each row and column, and one of each that is not there.
+/// Tells the number of sides, and then these many rows and columns.
 fn put_forms(out: &mut SureSink, forms: &Forms, rows: u32, columns: u32) {
-    put(out, "\n  sides: ");
-    put_whole(out, forms.sides().len() as i128);
+    put_labelled(out, "\n  sides: ", forms.sides().len() as i128);
     for row in 0..rows {
-        put_row(out, forms, row);
+        put_labelled(out, "\n  row ", row as i128);
+        put_ends(
+            out,
+            forms,
+            Place::Row(row, End::Lower),
+            Place::Row(row, End::Upper),
+        );
+        put_form(out, forms, row);
     }
-    put_row(out, forms, rows);
     for column in 0..columns {
-        put_column(out, forms, column);
+        put_labelled(out, "\n  column ", column as i128);
+        put_ends(
+            out,
+            forms,
+            Place::Bound(column, End::Lower),
+            Place::Bound(column, End::Upper),
+        );
     }
-    put_column(out, forms, columns);
 }
 
+/// Tells the rows and columns, and one of each that is not there.
 fn tell_sides(alloc: Global, out: &mut SureSink, model: &Model)
     requires { IsValid model.now }
 {
     if let Ok(forms) = Forms::build(alloc, model) {
         let rows = model.rows.as_slice().len();
         let columns = model.cols.as_slice().len();
-        put_forms(out, &forms, rows as u32, columns as u32);
+        put_forms(out, &forms, rows as u32 + 1, columns as u32 + 1);
     }
 }
 
-/// Whether the model is written as this text.
-fn is_written_as(alloc: Global, model: &Model, text: &[u8]) -> bool
-    requires { IsValid model.now }
-{
-    let mut shelf = SureShelf::new(alloc);
-    let is_written = write_deck(alloc, model, &mut shelf, "o").is_ok();
-    is_written && shelf.file("o") == Some(text) && deck_len(model) == text.len() as u64
+/// Puts the canonical text, where it has the length that is told without it and is what was written to a file.
+fn put_text(out: &mut SureSink, model: &Model, text: &[u8], file: Option<&[u8]>) {
+    if text.len() as u64 == deck_len(model) && file == Some(text) {
+        put(out, "\n  ");
+        put_line(out, text);
+    }
 }
 
-/// Tells the canonical text, where it is what is written to a file.
-fn tell_text(alloc: Global, out: &mut SureSink, model: &Model)
+fn tell_text(alloc: Global, out: &mut SureSink, files: &mut SureShelf, model: &Model)
     requires { IsValid model.now }
 {
+    let _written = write_deck(alloc, model, files, "text");
     if let Ok(text) = deck_text(alloc, model) {
-        if is_written_as(alloc, model, &text) {
-            put(out, "\n  ");
-            put_line(out, &text);
-        }
+        put_text(out, model, &text, files.file("text"));
     }
 }
 
@@ -142,31 +123,25 @@ fn tell_names(alloc: Global, out: &mut SureSink, model: &Model) {
     }
 }
 
-fn tell_model(alloc: Global, out: &mut SureSink, case: Case, model: &Model)
+fn tell_model(alloc: Global, out: &mut SureSink, files: &mut SureShelf, case: Case, model: &Model)
     requires { IsValid model.now }
 {
     match case {
         Case::Sides => tell_sides(alloc, out, model),
         _ => {
-            tell_text(alloc, out, model);
+            tell_text(alloc, out, files, model);
             tell_names(alloc, out, model);
         }
     }
 }
 
-fn tell_deck(alloc: Global, out: &mut SureSink, case: Case, deck: &[u8])
+/// Tells what the case asks of a deck, or its first bad line and kind.
+pub fn tell(alloc: Global, out: &mut SureSink, files: &mut SureShelf, case: Case, deck: &[u8])
     requires { length deck.now ≤ 2 ^ 20 }
 {
     match deck_of(alloc, deck) {
-        Ok(model) => tell_model(alloc, out, case, &model),
+        Ok(model) => tell_model(alloc, out, files, case, &model),
         Err(DeckError::Fault { line, kind }) => put_bad_line(out, line, kind),
         Err(DeckError::Memory) => {}
-    }
-}
-
-/// Tells what the case asks of a deck, or its first bad line and kind.
-pub fn tell(alloc: Global, out: &mut SureSink, case: Case, deck: &str) {
-    if let Some(deck) = bytes_of(alloc, deck) {
-        tell_deck(alloc, out, case, &deck);
     }
 }

@@ -44,6 +44,11 @@ pub fn put_whole(out: &mut SureSink, number: i128) {
     }
 }
 
+pub fn put_labelled(out: &mut SureSink, label: &str, number: i128) {
+    put(out, label);
+    put_whole(out, number);
+}
+
 /// Tells a fraction in lowest terms, its floor and what is above it.
 pub fn tell_fraction(out: &mut SureSink, word: &str) {
     let Some(f) = fraction(word) else {
@@ -51,8 +56,7 @@ pub fn tell_fraction(out: &mut SureSink, word: &str) {
     };
     put(out, "\n  ");
     put_fraction(out, f);
-    put(out, " = ");
-    put_whole(out, f.floor());
+    put_labelled(out, " = ", f.floor());
     put(out, " + ");
     put_fraction(out, f.fract());
 }
@@ -80,15 +84,15 @@ fn put_exact(out: &mut SureSink, found: Result<Frac, Overflow>) {
     }
 }
 
-fn order(a: Frac, b: Frac) -> &'static str {
-    if a.compare(b) != a.cmp(&b) {
-        return "two orders";
-    }
-    match a.cmp(&b) {
-        Ordering::Less => "less",
-        Ordering::Equal => "equal",
-        Ordering::Greater => "greater",
-    }
+fn put_order(out: &mut SureSink, order: Ordering) {
+    put(
+        out,
+        match order {
+            Ordering::Less => "less ",
+            Ordering::Equal => "equal ",
+            Ordering::Greater => "greater ",
+        },
+    );
 }
 
 fn put_sums(out: &mut SureSink, a: Frac, b: Frac) {
@@ -98,18 +102,23 @@ fn put_sums(out: &mut SureSink, a: Frac, b: Frac) {
     if b.num() != 0 {
         put_exact(out, a.div(b));
     }
-    put(out, "\n  ");
-    put(out, order(a, b));
-    put(out, ", gcd of the numerators ");
-    put_whole(out, gcd(a.num(), b.num()));
 }
 
-/// Tells the sum of two fractions, their difference, product, quotient and order, and the gcd of their numerators.
+fn put_comparison(out: &mut SureSink, a: Frac, b: Frac) {
+    put(out, "\n  ");
+    put_order(out, a.compare(b));
+    put_order(out, a.cmp(&b));
+    put_labelled(out, "gcd ", gcd(a.num(), b.num()));
+}
+
+/// Tells the sum of two fractions, their difference, product and quotient, their order by `compare` and by `cmp`, and the
+/// gcd of their numerators.
 pub fn tell_sums(out: &mut SureSink, words: &str) {
     let (a, b) = words.split_once(' ').unwrap_or((words, ""));
     if let Some(a) = fraction(a) {
         if let Some(b) = fraction(b) {
             put_sums(out, a, b);
+            put_comparison(out, a, b);
         }
     }
 }
@@ -118,10 +127,8 @@ fn put_decimal(out: &mut SureSink, number: Dec) {
     let mut digits = [0; 48];
     let length = number.digits(&mut digits);
     let _done = out.put(&digits[..length]);
-    put(out, " = ");
-    put_whole(out, number.m());
-    put(out, " e");
-    put_whole(out, number.e() as i128);
+    put_labelled(out, " = ", number.m());
+    put_labelled(out, " e", number.e() as i128);
 }
 
 fn put_limit(out: &mut SureSink, limit: Limit) {

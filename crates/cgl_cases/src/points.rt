@@ -1,8 +1,8 @@
 //! Cases of point files, for a model with the columns a, b and c.
 ghost use Rattle.std.specs.Prelude.{◌≤◌, length, ◌^◌};
 
-use crate::bytes::{bytes_of, put};
-use crate::numbers::put_whole;
+use crate::bytes::put;
+use crate::numbers::put_labelled;
 use cgl_model::{Model, Point};
 use cgl_mps::deck_of;
 use cgl_outside::SureSink;
@@ -12,21 +12,17 @@ use std::alloc::Global;
 const DECK: &[u8] = b"ROWS\n L R\nCOLUMNS\n a R 1\n b R 1\n c R 1\nENDATA\n";
 
 fn put_point(out: &mut SureSink, point: &Point) {
-    put(out, "\n  over ");
-    put_whole(out, point.denominator());
+    put_labelled(out, "\n  over ", point.denominator());
     put(out, ":");
     for numerator in point.numerators() {
-        put(out, " ");
-        put_whole(out, *numerator);
+        put_labelled(out, " ", *numerator);
     }
 }
 
 /// Puts the first bad line and its kind.
 pub fn put_bad_line(out: &mut SureSink, line: u64, kind: u8) {
-    put(out, "\n  line ");
-    put_whole(out, line as i128);
-    put(out, " kind ");
-    put_whole(out, kind as i128);
+    put_labelled(out, "\n  line ", line as i128);
+    put_labelled(out, " kind ", kind as i128);
 }
 
 fn tell_for(alloc: Global, out: &mut SureSink, file: &[u8], model: &Model)
@@ -39,17 +35,11 @@ fn tell_for(alloc: Global, out: &mut SureSink, file: &[u8], model: &Model)
     }
 }
 
-fn tell_file(alloc: Global, out: &mut SureSink, file: &[u8])
+/// Tells the point, or the first bad line and its kind.
+pub fn tell(alloc: Global, out: &mut SureSink, file: &[u8])
     requires { length file.now ≤ 2 ^ 20 }
 {
     if let Ok(model) = deck_of(alloc, DECK) {
         tell_for(alloc, out, file, &model);
-    }
-}
-
-/// Tells the point, or the first bad line and its kind.
-pub fn tell(alloc: Global, out: &mut SureSink, file: &str) {
-    if let Some(file) = bytes_of(alloc, file) {
-        tell_file(alloc, out, &file);
     }
 }

@@ -1,72 +1,61 @@
 //! Cases of the program, over files and outputs in memory.
-use crate::bytes::{bytes_of, put, put_line};
-use crate::numbers::put_whole;
+use crate::bytes::{put, put_line};
+use crate::numbers::put_labelled;
 use cgl_app::run;
 use cgl_outside::{Call, Fail, MemShelf, MemSink, SureShelf, SureSink};
-use std::alloc::{AllocError, Global};
+use std::alloc::Global;
 
 /// The names whose files are told.
 const NAMES: [&str; 4] = ["m.mps", "x.txt", "o.mps", "p.txt"];
 
-/// Gives a name the bytes that a text means.
-pub fn put_file(alloc: Global, files: &mut SureShelf, name: &str, text: &str) {
-    if let Some(bytes) = bytes_of(alloc, text) {
-        let _done = files.put_file(name, &bytes);
+/// Adds a word. `''` is an empty one.
+fn add_word(alloc: Global, words: &mut Vec<String>, word: &str) {
+    let word = if word == "''" { "" } else { word };
+    if let Ok(word) = String::from_str(alloc, word) {
+        let _done = words.push(word);
     }
 }
 
-fn add_word(alloc: Global, words: &mut Vec<String>, word: &str) -> Result<(), AllocError> {
-    let word = String::from_str(alloc, word)?;
-    match words.push(word) {
-        Ok(()) => Ok(()),
-        Err(_) => Err(AllocError),
-    }
-}
-
-fn add_words(alloc: Global, words: &mut Vec<String>, command: &str) -> Result<(), AllocError> {
-    for word in command.split_whitespace() {
-        add_word(alloc, words, if word == "''" { "" } else { word })?;
-    }
-    Ok(())
-}
-
-/// The words of a command. `''` is an empty one.
 fn words_of(alloc: Global, command: &str) -> Vec<String> {
     let mut words = Vec::new(alloc);
-    let _done = add_words(alloc, &mut words, command);
+    for word in command.split_whitespace() {
+        add_word(alloc, &mut words, word);
+    }
     words
 }
 
-/// A fault `KIND NTH KEEP`: the kind of call, its number among those, and how many bytes it takes all the same.
-fn fault_of(fault: &str) -> Option<(&str, u64, u64)> {
-    let (kind, rest) = fault.split_once(' ')?;
-    let (nth, keep) = rest.split_once(' ')?;
-    Some((kind, nth.parse::<u64>().ok()?, keep.parse::<u64>().ok()?))
+fn number(word: &str) -> u64 {
+    word.parse::<u64>().unwrap_or(0)
 }
 
-fn call_of(kind: &str) -> Option<Call> {
-    match kind {
-        "read" => Some(Call::Read),
-        "create" => Some(Call::Create),
-        "append" => Some(Call::Append),
-        _ => None,
-    }
+/// A fault `KIND NTH KEEP`: the kind of call, its number among those, and how many bytes it takes all the same.
+fn fault_of(fault: &str) -> (&str, u64, u64) {
+    let (kind, numbers) = fault.split_once(' ').unwrap_or((fault, ""));
+    let (nth, keep) = numbers.split_once(' ').unwrap_or((numbers, ""));
+    (kind, number(nth), number(keep))
 }
 
 fn add_fail(fails: &mut Vec<Fail>, fault: &str) {
-    if let Some((kind, nth, keep)) = fault_of(fault) {
-        if let Some(call) = call_of(kind) {
-            let _done = fails.push(Fail { call, nth, keep });
-        }
+    let (kind, nth, keep) = fault_of(fault);
+    let call = match kind {
+        "read" => Call::Read,
+        "create" => Call::Create,
+        "append" => Call::Append,
+        _ => return,
+    };
+    let _done = fails.push(Fail { call, nth, keep });
+}
+
+fn add_fails(fails: &mut Vec<Fail>, faults: &str) {
+    for fault in faults.split(", ") {
+        add_fail(fails, fault);
     }
 }
 
 /// A shelf with the files, whose calls have the faults of their kinds.
 fn shelf_with(alloc: Global, files: &SureShelf, faults: &str) -> MemShelf {
     let mut fails = Vec::new(alloc);
-    for fault in faults.split(", ") {
-        add_fail(&mut fails, fault);
-    }
+    add_fails(&mut fails, faults);
     let mut shelf = MemShelf::new(alloc, fails);
     put_files(&mut shelf, files);
     shelf
@@ -81,35 +70,41 @@ fn put_files(shelf: &mut MemShelf, files: &SureShelf) {
 }
 
 fn add_pair(pairs: &mut Vec<(u64, u64)>, output: &str, fault: &str) {
-    if let Some((kind, nth, keep)) = fault_of(fault) {
-        if kind == output {
-            let _done = pairs.push((nth, keep));
-        }
+    let (kind, nth, keep) = fault_of(fault);
+    if kind == output {
+        let _done = pairs.push((nth, keep));
+    }
+}
+
+fn add_pairs(pairs: &mut Vec<(u64, u64)>, output: &str, faults: &str) {
+    for fault in faults.split(", ") {
+        add_pair(pairs, output, fault);
     }
 }
 
 /// An output whose puts have the faults of its kind.
 fn sink_with(alloc: Global, output: &str, faults: &str) -> MemSink {
     let mut pairs = Vec::new(alloc);
-    for fault in faults.split(", ") {
-        add_pair(&mut pairs, output, fault);
-    }
+    add_pairs(&mut pairs, output, faults);
     MemSink::new(alloc, pairs)
 }
 
 fn put_end(out: &mut SureSink, status: u8, written: &[u8], told: &[u8]) {
-    put(out, "\n  status ");
-    put_whole(out, status as i128);
+    put_labelled(out, "\n  status ", status as i128);
     put(out, "\n  out ");
     put_line(out, written);
     put(out, "\n  err ");
     put_line(out, told);
 }
 
-fn put_bytes_of(out: &mut SureSink, name: &str, bytes: Option<&[u8]>) {
+/// Tells what a name holds, if it is not what it held before.
+fn put_change(out: &mut SureSink, name: &str, before: Option<&[u8]>, after: Option<&[u8]>) {
+    if before == after {
+        return;
+    }
     put(out, "\n  ");
     put(out, name);
-    match bytes {
+    match after {
         Some(bytes) => {
             put(out, " ");
             put_line(out, bytes);
@@ -118,12 +113,9 @@ fn put_bytes_of(out: &mut SureSink, name: &str, bytes: Option<&[u8]>) {
     }
 }
 
-/// Tells the files that are not what they were.
 fn put_changes(out: &mut SureSink, before: &SureShelf, after: &MemShelf) {
     for name in &NAMES {
-        if before.file(name) != after.file(name) {
-            put_bytes_of(out, name, after.file(name));
-        }
+        put_change(out, name, before.file(name), after.file(name));
     }
 }
 
@@ -139,24 +131,22 @@ pub fn tell_run(alloc: Global, out: &mut SureSink, files: &SureShelf, line: &str
     put_changes(out, files, &shelf);
 }
 
-fn put_refused(out: &mut SureSink, files: u64, to_out: u64, to_err: u64) {
-    put(out, "\n  refused ");
-    put_whole(out, files as i128);
-    put(out, " ");
-    put_whole(out, to_out as i128);
-    put(out, " ");
-    put_whole(out, to_err as i128);
+/// Tells all files that there are, and how often memory was refused.
+fn put_sure_end(out: &mut SureSink, files: &SureShelf, to_out: &SureSink, to_err: &SureSink) {
+    for name in &NAMES {
+        put_change(out, name, None, files.file(name));
+    }
+    put_labelled(out, "\n  refused ", files.refused() as i128);
+    put_labelled(out, " ", to_out.refused() as i128);
+    put_labelled(out, " ", to_err.refused() as i128);
 }
 
-/// Tells a run over the files themselves and outputs that fail for want of memory alone, what it leaves in the two files
-/// that it may write, and how often memory was refused.
+/// Tells a run over the files themselves and outputs that fail for want of memory alone.
 pub fn tell_sure_run(alloc: Global, out: &mut SureSink, files: &mut SureShelf, command: &str) {
     let words = words_of(alloc, command);
     let mut to_out = SureSink::new(alloc);
     let mut to_err = SureSink::new(alloc);
     let status = run(alloc, &words, files, &mut to_out, &mut to_err);
     put_end(out, status, to_out.bytes(), to_err.bytes());
-    put_bytes_of(out, "o.mps", files.file("o.mps"));
-    put_bytes_of(out, "p.txt", files.file("p.txt"));
-    put_refused(out, files.refused(), to_out.refused(), to_err.refused());
+    put_sure_end(out, files, &to_out, &to_err);
 }

@@ -1,9 +1,10 @@
 //! Cases of a violation: by how much a point x violates `2x >= 1`.
-ghost use Rattle.std.specs.Prelude.{◌≡◌, ◌<ℤ◌, ◌∷◌, [], length, pos, IfOk};
+ghost use Rattle.std.specs.Prelude.{◌≡◌, ◌∷◌, [], length, pos, IfOk};
 
 use crate::bytes::put;
 use crate::numbers::{fraction, put_fraction};
 use cgl_model::{Ineq, Point, Seq, Terms};
+use cgl_num::Frac;
 use cgl_outside::SureSink;
 use std::alloc::{AllocError, Global};
 
@@ -17,13 +18,12 @@ fn inequality(alloc: Global) -> Result<Ineq, AllocError>
     }
 }
 
-fn point(alloc: Global, num: i128, den: i128) -> Result<Point, AllocError>
-    requires { pos 0 <ℤ den }
+fn point(alloc: Global, x: Frac) -> Result<Point, AllocError>
     ensures { IfOk result (λ x. length x.p ≡ 1) }
 {
     let mut numerators = Seq::new(alloc);
-    match numerators.push(num) {
-        Ok(()) => Ok(Point::new(numerators, den)),
+    match numerators.push(x.num()) {
+        Ok(()) => Ok(Point::new(numerators, x.den())),
         Err(_) => Err(AllocError),
     }
 }
@@ -40,16 +40,11 @@ fn tell_for(alloc: Global, out: &mut SureSink, x: &Point)
     }
 }
 
-fn tell_at(alloc: Global, out: &mut SureSink, num: i128, den: i128)
-    requires { pos 0 <ℤ den }
-{
-    if let Ok(x) = point(alloc, num, den) {
-        tell_for(alloc, out, &x);
-    }
-}
-
 pub fn tell(alloc: Global, out: &mut SureSink, word: &str) {
-    if let Some(x) = fraction(word) {
-        tell_at(alloc, out, x.num(), x.den());
+    let Some(x) = fraction(word) else {
+        return;
+    };
+    if let Ok(x) = point(alloc, x) {
+        tell_for(alloc, out, &x);
     }
 }
