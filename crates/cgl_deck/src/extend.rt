@@ -10,39 +10,28 @@ use crate::names::{copied_name, cut_names};
 use cgl_model::{Column, Entries, Ineq, Model, Name, Row, RowKind, Seq};
 use cgl_num::{Dec, Memory};
 use std::alloc::Global;
-use std::error::Error;
-use std::fmt;
+use thiserror::Error;
 
 const MOST_ROWS: usize = 1 << 20;
 
 const MOST_ENTRIES: usize = 1 << 22;
 
 /// Why there is no model with these cuts as rows. Of several causes the one that stands first here is told.
-#[derive(Clone, Copy, Debug, PartialEq, Eq)]
+#[derive(Clone, Copy, Debug, PartialEq, Eq, Error)]
 pub enum ExtendError {
     /// The first cut, counted from 0, that names a column beyond the model.
+    #[error("cut {cut} names an unknown column")]
     Unknown { cut: u32 },
     /// The first cut, counted from 0, with an integer that is no decimal within the limits.
+    #[error("cut {cut} has a number out of the limits")]
     NotDec { cut: u32 },
     /// More than 2^20 rows or 2^22 entries.
+    #[error("too many rows or entries")]
     TooMany,
     /// Want of memory.
+    #[error("out of memory")]
     Memory,
 }
-
-impl fmt::Display for ExtendError {
-    fn fmt<W: fmt::Write>(&self, f: &mut fmt::Formatter<W>) -> fmt::Result {
-        let (cut, fault) = match self {
-            ExtendError::Unknown { cut } => (cut, "names an unknown column"),
-            ExtendError::NotDec { cut } => (cut, "has a number out of the limits"),
-            ExtendError::TooMany => return f.write_str("too many rows or entries"),
-            ExtendError::Memory => return f.write_str("out of memory"),
-        };
-        write!(f, "cut {cut} {fault}")
-    }
-}
-
-impl Error for ExtendError {}
 
 // ---- refusals
 
