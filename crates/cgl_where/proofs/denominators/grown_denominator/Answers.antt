@@ -1,0 +1,31 @@
+use Rattle.std.proofs.Common.{◌≡◌, refl, sym, ap, ap₂, ◌∙◌, subst, ℕ, ◌^◌, nat_lt, Bool, true, false, cond, List, Some, None}
+use Rattle.std.specs.Prelude.{unsigned_abs}
+use Rattle.std.specs.List.{list_any}
+use Rattle.cgl_num.specs.Fraction.{Fraction}
+use Rattle.cgl_where.specs.PointFile.{lcm}
+use Rattle.cgl_where.specs.Limits.{fitting_denominator}
+use Rattle.cgl_where.specs.Carried.{grown_within, is_wide}
+use Rattle.cgl_where.proofs.denominators.grown_denominator.Goals.{else-next-d-via-then-next-d+else-some_wide, else-next-d-via-else-next-d}
+use Rattle.cgl_where.proofs.denominators.grown_denominator.Goals as goal
+
+grown : (n next : ℕ) (values : List Fraction) (f : Fraction) (above : Bool) → nat_lt (2 ^ 62) n ≡ above → cond above None (Some n) ≡ Some next
+    → is_wide next f ≡ false → list_any (is_wide next) values ≡ false → Some next ≡ grown_within n values f
+grown n next values f true is fits own others = cc
+grown n next values f false is fits own others =
+    let same : n ≡ next = cc in
+    sym (ap (λ above. cond above None (cond (is_wide n f) None (cond (list_any (is_wide n) values) None (Some n)))) is
+    ∙ ap (λ m. cond (is_wide m f) None (cond (list_any (is_wide m) values) None (Some m))) same
+    ∙ ap₂ (λ wide some. cond wide None (cond some None (Some next))) own others)
+
+pub returns : goal.returns
+returns c =
+    let n = lcm (unsigned_abs c.args.f.den) c.args.d in
+    let next = c.in-Some.next in
+    let none_wide : list_any (is_wide next) c.args.values.now ≡ false = elim c.else-next-d.branch [
+      | else-next-d-via-then-next-d+else-some_wide w ↦ sym w.some_wide.ensures ∙ w.if-some_wide.false
+      | else-next-d-via-else-next-d w ↦ subst (λ (d : ℕ). list_any (is_wide d) c.args.values.now ≡ false) (sym w.if-next-d.false) c.requires.fine
+    ] in
+    grown n next c.args.values.now c.args.f (nat_lt (2 ^ 62) n) refl
+    (sym (ap (λ a. fitting_denominator (lcm a c.args.d)) c.den.ensures.value) ∙ sym c.lcm.ensures ∙ c.in-Some.is)
+    (sym c.is_wide.ensures ∙ c.if-is_wide.false)
+    none_wide
