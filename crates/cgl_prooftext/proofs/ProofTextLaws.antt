@@ -3,8 +3,8 @@ use Rattle.std.proofs.Common.{◌≡◌, ℕ, List, [], ◌∷◌, ◌++◌, map
 use Rattle.std.specs.Fmt.{decimal}
 use Rattle.cgl_model.specs.declared.linear.Ineq.{Ineq}
 use Rattle.std.proofs.lemmas.List.{append_assoc, append-nil, take_more}
-use Rattle.cgl_prooftext.specs.declared.field.Builder.{Builder}
-use Rattle.cgl_prooftext.specs.Growth.{Grows}
+use Rattle.cgl_text.specs.Growth.{Grown, Grows}
+use Rattle.cgl_text.proofs.GrowthLaws.{flat_map_append, flat_map_more, grows_nothing, grows_then, grows_as}
 use Rattle.cgl_derive.specs.declared.step.Lin.{Lin}
 use Rattle.cgl_derive.specs.declared.step.Round.{Round}
 use Rattle.cgl_derive.specs.declared.step.Step.{Step, out-Step, out-roll-Step}
@@ -19,10 +19,6 @@ use Rattle.cgl_prooftext.specs.ProofText.{Text, fields_text, line, lin_text, rou
 
 -- ---- fields
 
-pub flat_map_append : {A B : Type 0} (f : A → List B) (xs ys : List A) → flat_map f (xs ++ ys) ≡ flat_map f xs ++ flat_map f ys
-flat_map_append f [] ys = refl
-flat_map_append f (x ∷ xs) ys = ap (λ z. f x ++ z) (flat_map_append f xs ys) ∙ sym (append_assoc (f x) (flat_map f xs) (flat_map f ys))
-
 pub fields_append : (a b : List Text) → fields_text (a ++ b) ≡ fields_text a ++ fields_text b
 unfolding fields_text
 fields_append a b = flat_map_append (λ field. 32 ∷ field) a b
@@ -34,10 +30,6 @@ field_one x = append-nil (32 ∷ x)
 pub line_word : (word : Text) → line word [] ≡ word ++ 10 ∷ []
 unfolding line fields_text
 line_word word = ap (λ z. z ++ 10 ∷ []) (append-nil word)
-
--- the next item of a list
-pub flat_map_more : {A B : Type 0} (f : A → List B) (xs : List A) (i : ℕ) (d : A) → i < length xs → flat_map f (take (i + 1) xs) ≡ flat_map f (take i xs) ++ f (get_or xs i d)
-flat_map_more f xs i d h = ap (flat_map f) (take_more xs i d h) ∙ flat_map_append f (take i xs) (get_or xs i d ∷ []) ∙ ap (λ z. flat_map f (take i xs) ++ z) (append-nil (f (get_or xs i d)))
 
 -- ---- levels
 
@@ -80,53 +72,33 @@ step_split s split is = step_text_is s ∙ ap layer_text (ap out-Step is ∙ ap 
 
 -- ---- what a text grows by
 
-grows_nothing : (a : Builder) → Grows [] a a
-grows_nothing a = record { whole = λ e. (e, sym (append-nil a.bytes.items)) }
-
-pub grows_then : (x y : Text) (a b c : Builder) → Grows x a b → Grows y b c → Grows (x ++ y) a c
-grows_then x y a b c first second = record {
-  whole = λ e.
-      let after = second.whole e in
-      let before = first.whole after.0 in
-      (before.0, after.1 ∙ ap (λ z. z ++ y) before.1 ∙ append_assoc a.bytes.items x y);
-}
-
-pub grows_as : (x y : Text) (a b : Builder) → x ≡ y → Grows x a b → Grows y a b
-grows_as x y a b e grows = subst (λ (z : Text). Grows z a b) e grows
-
-pub no_items : {A : Type 0} (f : A → Text) (a : Builder) → Grows (flat_map f []) a a
-no_items f a = grows_nothing a
-
-pub no_fields : (a : Builder) → Grows (fields_text []) a a
+pub no_fields : (a : Grown) → Grows (fields_text []) a a
 unfolding fields_text
 no_fields a = grows_nothing a
 
-pub field_grows : (x : Text) (a b c : Builder) → Grows (32 ∷ []) a b → Grows x b c → Grows (fields_text (x ∷ [])) a c
+pub field_grows : (x : Text) (a b c : Grown) → Grows (32 ∷ []) a b → Grows x b c → Grows (fields_text (x ∷ [])) a c
 field_grows x a b c space field = grows_as _ _ a c (sym (field_one x)) (grows_then (32 ∷ []) x a b c space field)
 
-pub fields_grow : (x y : List Text) (a b c : Builder) → Grows (fields_text x) a b → Grows (fields_text y) b c → Grows (fields_text (x ++ y)) a c
+pub fields_grow : (x y : List Text) (a b c : Grown) → Grows (fields_text x) a b → Grows (fields_text y) b c → Grows (fields_text (x ++ y)) a c
 fields_grow x y a b c first second = grows_as _ _ a c (sym (fields_append x y)) (grows_then (fields_text x) (fields_text y) a b c first second)
 
-pub line_grows : (word : Text) (fields : List Text) (a b c d : Builder) → Grows word a b → Grows (fields_text fields) b c → Grows (10 ∷ []) c d → Grows (line word fields) a d
+pub line_grows : (word : Text) (fields : List Text) (a b c d : Grown) → Grows word a b → Grows (fields_text fields) b c → Grows (10 ∷ []) c d → Grows (line word fields) a d
 unfolding line
 line_grows word fields a b c d first middle end = grows_then _ _ a c d (grows_then word (fields_text fields) a b c first middle) end
 
 -- the next item of a list
-pub more_grows : {A : Type 0} (f : A → Text) (xs : List A) (i : ℕ) (d : A) (a b c : Builder) → i < length xs → Grows (flat_map f (take i xs)) a b → Grows (f (get_or xs i d)) b c → Grows (flat_map f (take (i + 1) xs)) a c
-more_grows f xs i d a b c h before here = grows_as _ _ a c (sym (flat_map_more f xs i d h)) (grows_then (flat_map f (take i xs)) (f (get_or xs i d)) a b c before here)
-
-pub more_fields : {A : Type 0} (f : A → List Text) (xs : List A) (i : ℕ) (d : A) (a b c : Builder) → i < length xs → Grows (fields_text (flat_map f (take i xs))) a b → Grows (fields_text (f (get_or xs i d))) b c → Grows (fields_text (flat_map f (take (i + 1) xs))) a c
+pub more_fields : {A : Type 0} (f : A → List Text) (xs : List A) (i : ℕ) (d : A) (a b c : Grown) → i < length xs → Grows (fields_text (flat_map f (take i xs))) a b → Grows (fields_text (f (get_or xs i d))) b c → Grows (fields_text (flat_map f (take (i + 1) xs))) a c
 more_fields f xs i d a b c h before here =
     grows_as _ _ a c (ap fields_text (sym (flat_map_more f xs i d h))) (fields_grow (flat_map f (take i xs)) (f (get_or xs i d)) a b c before here)
 
-pub split_grows : (s : Split) (a b c d e f : Builder) → Grows (split_line (out-Split s).p (out-Split s).p0 (out-Split s).claim) a b → Grows (flat_map step_text (out-Derivation (out-Split s).left).steps) b c → Grows (codes "else\n") c d
+pub split_grows : (s : Split) (a b c d e f : Grown) → Grows (split_line (out-Split s).p (out-Split s).p0 (out-Split s).claim) a b → Grows (flat_map step_text (out-Derivation (out-Split s).left).steps) b c → Grows (codes "else\n") c d
     → Grows (flat_map step_text (out-Derivation (out-Split s).right).steps) d e → Grows (codes "done\n") e f → Grows (split_text s) a f
 split_grows s a b c d e f head left middle right end =
     let else_is = grows_as _ _ c d (sym (line_word (codes "else"))) middle in
     let done_is = grows_as _ _ e f (sym (line_word (codes "done"))) end in
     grows_as _ _ a f (sym (split_text_is s)) (grows_then _ _ a e f (grows_then _ _ a d e (grows_then _ _ a c d (grows_then _ _ a b c head left) else_is) right) done_is)
 
-pub cut_grows : (cut : Ineq × Derivation) (a b c d e f : Builder) → Grows (codes "cut") a b → Grows (fields_text (ineq_fields cut.0)) b c → Grows (10 ∷ []) c d → Grows (flat_map step_text (out-Derivation cut.1).steps) d e → Grows (codes "qed\n") e f → Grows (cut_text cut) a f
+pub cut_grows : (cut : Ineq × Derivation) (a b c d e f : Grown) → Grows (codes "cut") a b → Grows (fields_text (ineq_fields cut.0)) b c → Grows (10 ∷ []) c d → Grows (flat_map step_text (out-Derivation cut.1).steps) d e → Grows (codes "qed\n") e f → Grows (cut_text cut) a f
 unfolding cut_text
 cut_grows cut a b c d e f word fields end steps last =
     let head = line_grows (codes "cut") (ineq_fields cut.0) a b c d word fields end in
@@ -134,7 +106,7 @@ cut_grows cut a b c d e f word fields end steps last =
     let qed_is = grows_as _ _ e f (sym (line_word (codes "qed"))) last in
     grows_then _ _ a e f (grows_then _ _ a d e head steps_are) qed_is
 
-pub proof_grows : (cuts : List (Ineq × Derivation)) (a b c d e f : Builder) → Grows (codes "cgl-proof 1\ncuts") a b → Grows (fields_text (decimal (length cuts) ∷ [])) b c → Grows (10 ∷ []) c d → Grows (flat_map cut_text cuts) d e → Grows (codes "end\n") e f → Grows (proof_text cuts) a f
+pub proof_grows : (cuts : List (Ineq × Derivation)) (a b c d e f : Grown) → Grows (codes "cgl-proof 1\ncuts") a b → Grows (fields_text (decimal (length cuts) ∷ [])) b c → Grows (10 ∷ []) c d → Grows (flat_map cut_text cuts) d e → Grows (codes "end\n") e f → Grows (proof_text cuts) a f
 unfolding proof_text line fields_text
 proof_grows cuts a b c d e f first count end items last =
     grows_then _ _ a e f (grows_then _ _ a d e (grows_then _ _ a c d (grows_then _ _ a b c first count) end) items) last

@@ -1,3 +1,2 @@
 pub mod ProofText
-pub mod Growth
 pub mod KnownProof

@@ -1,48 +1,11 @@
-ghost use Rattle.std.specs.Prelude.{◌≡◌, [], ◌∷◌, false, IfOk};
+ghost use Rattle.std.specs.Prelude.{[], ◌∷◌};
 ghost use Rattle.std.specs.Fmt.{decimal, signed_decimal};
-ghost use Rattle.cgl_prooftext.specs.Growth.{Grows};
+ghost use Rattle.cgl_text.specs.Growth.{Grows};
 ghost use Rattle.cgl_prooftext.specs.ProofText.{fields_text, ineq_fields, terms_fields};
 
 use cgl_model::Ineq;
-use cgl_num::Memory;
+use cgl_text::Builder;
 use itoa::Buffer;
-use std::alloc::Global;
-
-/// A text that grows by pieces. Where memory is refused for one, `finish` says so.
-#[derive(Drop)]
-pub struct Builder {
-    bytes: Vec<u8>,
-    refused: bool,
-}
-
-impl Builder {
-    pub fn new(alloc: Global) -> Builder
-        ensures { result.bytes.items ≡ [] }
-    {
-        Builder {
-            bytes: Vec::new(alloc),
-            refused: false,
-        }
-    }
-
-    pub fn append(&mut self, piece: &[u8])
-        ensures { Grows piece.now self.old self.new }
-    {
-        if self.bytes.extend_from_slice(piece).is_err() {
-            self.refused = true;
-        }
-    }
-
-    pub fn finish(self) -> Result<Vec<u8>, Memory>
-        ensures { IfOk result (λ bytes. (self.refused ≡ false) × (bytes.items ≡ self.bytes.items)) }
-    {
-        let Builder { bytes, refused } = self;
-        if refused {
-            return Err(Memory);
-        }
-        Ok(bytes)
-    }
-}
 
 /// A field behind a space.
 pub fn append_field(text: &mut Builder, field: &[u8])

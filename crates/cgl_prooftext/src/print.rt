@@ -1,12 +1,13 @@
 ghost use Rattle.std.specs.Prelude.{◌≡◌, flat_map, IfOk};
-ghost use Rattle.cgl_prooftext.specs.Growth.{Grows};
+ghost use Rattle.cgl_text.specs.Growth.{Grows};
 ghost use Rattle.cgl_prooftext.specs.ProofText.{cut_text, lin_text, proof_text, round_text, split_line, split_text, step_text};
 
-use crate::field::{Builder, append_count, append_ineq, append_number, append_terms};
+use crate::field::{append_count, append_ineq, append_number, append_terms};
 use crate::reference::{append_ref, append_refs};
 use cgl_derive::{Derivation, Lin, Round, Split, Step};
 use cgl_model::Ineq;
 use cgl_num::Memory;
+use cgl_text::Builder;
 use std::alloc::Global;
 
 fn append_lin(text: &mut Builder, lin: &Lin)

@@ -1,10 +1,11 @@
 ghost use Rattle.std.specs.Prelude.{◌≡◌, [], ◌∷◌};
-ghost use Rattle.cgl_prooftext.specs.Growth.{Grows};
+ghost use Rattle.cgl_text.specs.Growth.{Grows};
 ghost use Rattle.cgl_prooftext.specs.ProofText.{end_text, fields_text, numbered, ref_text, refs_fields};
 
-use crate::field::{Builder, append_count, append_number};
+use crate::field::{append_count, append_number};
 use cgl_derive::Ref;
 use cgl_model::{End, Place};
+use cgl_text::Builder;
 use itoa::Buffer;
 
 fn end_letter(end: End) -> &'static [u8]

@@ -2,3 +2,4 @@ pub mod TextLaws
 pub mod NameLaws
 pub mod FrontLaws
 pub mod RecordLaws
+pub mod GrowthLaws

@@ -1,3 +1,4 @@
 pub mod Text
 pub mod Seen
 pub mod Conditions
+pub mod Growth

@@ -4,7 +4,8 @@ use Rattle.std.specs.Int.RustNames.{FitsSigned}
 use Rattle.std.proofs.lemmas.Int.{to_z-of_z}
 use Rattle.std.proofs.lemmas.List.{take_all}
 use Rattle.cgl_prooftext.specs.ProofText.{fields_text, terms_fields, term_fields}
-use Rattle.cgl_prooftext.proofs.ProofTextLaws.{fields_grow, grows_as, more_fields, no_fields}
+use Rattle.cgl_text.proofs.GrowthLaws.{grows_as}
+use Rattle.cgl_prooftext.proofs.ProofTextLaws.{fields_grow, more_fields, no_fields}
 use Rattle.cgl_prooftext.proofs.field.append_terms.Goals as goal
 
 pub loop-term-init : goal.loop-term-init

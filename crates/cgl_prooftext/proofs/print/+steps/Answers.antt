@@ -4,7 +4,8 @@ use Rattle.std.specs.Int.RustNames.{FitsSigned}
 use Rattle.std.proofs.lemmas.Int.{to_z-of_z}
 use Rattle.std.proofs.lemmas.List.{take_all}
 use Rattle.cgl_prooftext.specs.ProofText.{step_text}
-use Rattle.cgl_prooftext.proofs.ProofTextLaws.{grows_as, more_grows, no_items, step_lin, step_round, step_split, split_grows}
+use Rattle.cgl_text.proofs.GrowthLaws.{grows_as, more_grows, no_items}
+use Rattle.cgl_prooftext.proofs.ProofTextLaws.{step_lin, step_round, step_split, split_grows}
 use Rattle.cgl_prooftext.proofs.print.+steps.Goals as goal
 
 pub append_split-returns : goal.append_split-returns

@@ -1,5 +1,5 @@
 use Rattle.std.proofs.Common.{flat_map, take}
-use Rattle.cgl_prooftext.specs.Growth.{Grows}
+use Rattle.cgl_text.specs.Growth.{Grows}
 use Rattle.cgl_prooftext.specs.ProofText.{step_text}
 use Rattle.cgl_prooftext.proofs.print.+steps.Given as goal
 

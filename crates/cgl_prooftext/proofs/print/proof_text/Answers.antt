@@ -2,7 +2,8 @@ use Rattle.std.proofs.Common.{◌∙◌, ◌++◌, ap, flat_map}
 use Rattle.std.proofs.lemmas.List.{take_all}
 use Rattle.std.proofs.lemmas.Result.{IfOk-weaker}
 use Rattle.cgl_prooftext.specs.ProofText.{cut_text, proof_text}
-use Rattle.cgl_prooftext.proofs.ProofTextLaws.{grows_as, more_grows, no_items, proof_grows}
+use Rattle.cgl_text.proofs.GrowthLaws.{grows_as, more_grows, no_items}
+use Rattle.cgl_prooftext.proofs.ProofTextLaws.{proof_grows}
 use Rattle.cgl_prooftext.proofs.print.proof_text.Goals as goal
 
 pub loop-cut-init : goal.loop-cut-init

@@ -1,5 +1,6 @@
 use Rattle.std.proofs.Common.{◌∙◌}
-use Rattle.cgl_prooftext.proofs.ProofTextLaws.{field_grows, grows_as, grows_then}
+use Rattle.cgl_text.proofs.GrowthLaws.{grows_as, grows_then}
+use Rattle.cgl_prooftext.proofs.ProofTextLaws.{field_grows}
 use Rattle.cgl_prooftext.proofs.reference.append_numbered.Goals as goal
 
 pub returns : goal.returns

@@ -1,6 +1,6 @@
 use Rattle.std.proofs.Common.{[], ◌∷◌, sym, subst}
 use Rattle.cgl_derive.specs.declared.step.Ref.{Ref}
-use Rattle.cgl_prooftext.specs.Growth.{Grows}
+use Rattle.cgl_text.specs.Growth.{Grows}
 use Rattle.cgl_prooftext.specs.ProofText.{fields_text, ref_text}
 use Rattle.cgl_prooftext.proofs.reference.append_ref.Goals as goal
 

@@ -8,7 +8,8 @@ use Rattle.cgl_model.specs.declared.places.Place.TheVariants.{Row}
 use Rattle.cgl_derive.specs.declared.step.Ref.{Ref}
 use Rattle.cgl_derive.specs.declared.step.Ref.TheVariants as by
 use Rattle.cgl_prooftext.specs.ProofText.{fields_text, refs_fields, ref_fields}
-use Rattle.cgl_prooftext.proofs.ProofTextLaws.{fields_grow, grows_as, more_fields, no_fields}
+use Rattle.cgl_text.proofs.GrowthLaws.{grows_as}
+use Rattle.cgl_prooftext.proofs.ProofTextLaws.{fields_grow, more_fields, no_fields}
 use Rattle.cgl_prooftext.proofs.reference.append_refs.Goals as goal
 
 pub loop-part-init : goal.loop-part-init

@@ -1,5 +1,5 @@
 use Rattle.std.proofs.Common.{flat_map, take}
-use Rattle.cgl_prooftext.specs.Growth.{Grows}
+use Rattle.cgl_text.specs.Growth.{Grows}
 use Rattle.cgl_prooftext.specs.ProofText.{fields_text, ref_fields}
 use Rattle.cgl_prooftext.proofs.reference.append_refs.Given as goal
 
