@@ -126,7 +126,7 @@ fn rhs_len(row: &Row) -> u64
     number_line_len(b"RHS", row.name.as_slice(), row.rhs)
 }
 
-fn right_sides_len(rows: &[Row]) -> u64
+pub(crate) fn right_sides_len(rows: &[Row]) -> u64
     ensures { result ≡ most (length (flat_map rhs_text rows.now)) }
 {
     let mut total: u64 = 0;
@@ -145,7 +145,7 @@ fn range_len(row: &Row) -> u64
     }
 }
 
-fn ranges_len(rows: &[Row]) -> u64
+pub(crate) fn ranges_len(rows: &[Row]) -> u64
     ensures { result ≡ most (length (flat_map range_text rows.now)) }
 {
     let mut total: u64 = 0;
@@ -208,7 +208,7 @@ fn bound_len(column: &Column) -> u64
     }
 }
 
-fn bounds_len(columns: &[Column]) -> u64
+pub(crate) fn bounds_len(columns: &[Column]) -> u64
     ensures { result ≡ most (length (flat_map bound_text columns.now)) }
 {
     let mut total: u64 = 0;

@@ -1,15 +1,16 @@
-use Rattle.std.proofs.Common.{ap, arith, length}
 use Rattle.cgl_deck.specs.DeckText.{entry_text}
-use Rattle.cgl_deck.proofs.TurnLaws.{entry_turn, items_ended}
+use Rattle.cgl_deck.proofs.TurnLaws.{item_turn, items_ended}
 use Rattle.cgl_deck.proofs.write.add_column.Goals as goal
 
 pub loop-entry-preserved : goal.loop-entry-preserved
 loop-entry-preserved c =
-    entry_turn c.args.rows.now c.args.column.now.name c.as_slice.result.now c.name_of_row.result.now c.as_slice-entries.result.now c.args.column.now.entries
-    c.loop-entry.entry-index c.entry-item.result _ _ _ c.as_slice-entries.ensures c.as_slice.ensures c.name_of_row.ensures (omega arith) c.entry-item.is
-    c.in_ok-add_number_line.ensures c.loop-entry.invariant
+    let column = c.args.column.now in
+    let below = rw c.as_slice-entries.ensures at c.loop-entry-test.true in
+    let is = rw c.as_slice-entries.ensures at c.entry-item.is in
+    let line = rw (c.as_slice-name.ensures, c.name_of_row.ensures) at c.add_number_line.ensures in
+    item_turn (entry_text c.args.rows.now column.name) column.entries c.loop-entry.entry-index c.entry-item.result _ _ _ below is c.loop-entry.invariant line
 
 pub returns : goal.returns
 returns c =
-    items_ended (entry_text c.args.rows.now c.args.column.now.name) c.args.column.now.entries c.loop-entry.entry-index c.loop-entry.text.items _
-    (omega (arith, ap length c.as_slice-entries.ensures)) c.loop-entry.invariant
+    let end = rw c.as_slice-entries.ensures at c.loop-entry-test.false in
+    items_ended (entry_text c.args.rows.now c.args.column.now.name) c.args.column.now.entries c.loop-entry.entry-index _ _ end c.loop-entry.invariant

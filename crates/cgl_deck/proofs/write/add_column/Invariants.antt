@@ -1,6 +1,7 @@
-use Rattle.std.proofs.Common.{◌≡◌, ◌++◌, flat_map, drop}
+use Rattle.std.proofs.Common.{flat_map, take}
+use Rattle.cgl_text.specs.Growth.{Grows}
 use Rattle.cgl_deck.specs.DeckText.{entry_text}
 use Rattle.cgl_deck.proofs.write.add_column.Given as goal
 
 abbrev pub invariant-loop-entry : goal.invariant-loop-entry
-invariant-loop-entry l = l.text.items ++ flat_map (entry_text l.rows l.column.name) (drop l.entry-index l.column.entries) ≡ l.initial.text.items ++ flat_map (entry_text l.rows l.column.name) l.column.entries
+invariant-loop-entry l = Grows (flat_map (entry_text l.rows l.column.name) (take l.entry-index l.column.entries)) l.initial.text l.text

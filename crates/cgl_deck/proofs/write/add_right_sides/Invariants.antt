@@ -1,6 +1,7 @@
-use Rattle.std.proofs.Common.{◌≡◌, ◌++◌, flat_map, drop}
+use Rattle.std.proofs.Common.{flat_map, take}
+use Rattle.cgl_text.specs.Growth.{Grows}
 use Rattle.cgl_deck.specs.DeckText.{rhs_text}
 use Rattle.cgl_deck.proofs.write.add_right_sides.Given as goal
 
 abbrev pub invariant-loop-row : goal.invariant-loop-row
-invariant-loop-row l = l.text.items ++ flat_map rhs_text (drop l.row-index l.rows) ≡ l.initial.text.items ++ flat_map rhs_text l.rows
+invariant-loop-row l = Grows (flat_map rhs_text (take l.row-index l.rows)) l.initial.text l.text
