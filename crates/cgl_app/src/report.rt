@@ -1,43 +1,37 @@
-ghost use Rattle.std.specs.Prelude.{◌≡◌, ◌≤◌, ◌^◌, ◌++◌, codes, decimal, flat_map, length, sum_by, zip, IfOk, OnOk};
+ghost use Rattle.std.specs.Prelude.{◌≡◌, ◌≤◌, ◌^◌, ◌++◌, codes, decimal, flat_map, length, sum_by, zip, IfOk};
 ghost use Rattle.cgl_model.specs.Valid.{IsSized};
 ghost use Rattle.cgl_num.specs.Fraction.{fraction_text};
+ghost use Rattle.cgl_text.specs.Growth.{Grows};
 ghost use Rattle.cgl_app.specs.Report.{counts_text, cut_line, generator_word, key_text, report_text, wide_line};
 
 use cgl_model::{Column, Model, Name};
 use cgl_num::{Frac, Memory};
 use cgl_pool::Kept;
+use cgl_text::Builder;
 use itoa::Buffer;
 use std::alloc::Global;
 
-fn add(text: &mut Vec<u8>, bytes: &[u8]) -> Result<(), Memory>
-    ensures { OnOk result (text.new.items ≡ text.old.items ++ bytes.now) }
+fn append_number(text: &mut Builder, number: u64)
+    ensures { Grows (decimal number) text.old text.new }
 {
-    let Ok(()) = text.extend_from_slice(bytes) else {
-        return Err(Memory);
-    };
-    Ok(())
+    let mut buffer = Buffer::new();
+    text.append(buffer.format(number).as_bytes());
 }
 
-fn add_number(text: &mut Vec<u8>, number: u64) -> Result<(), Memory>
-    ensures { OnOk result (text.new.items ≡ text.old.items ++ decimal number) }
+/// Appends a number behind its word.
+fn append_counted(text: &mut Builder, word: &[u8], number: u64)
+    ensures { Grows (word.now ++ decimal number) text.old text.new }
 {
-    add(text, Buffer::new().format(number).as_bytes())
+    text.append(word);
+    append_number(text, number);
 }
 
-/// Adds a number behind its word.
-fn add_counted(text: &mut Vec<u8>, word: &[u8], number: u64) -> Result<(), Memory>
-    ensures { OnOk result (text.new.items ≡ text.old.items ++ word.now ++ decimal number) }
-{
-    add(text, word)?;
-    add_number(text, number)
-}
-
-fn add_fraction(text: &mut Vec<u8>, fraction: Frac) -> Result<(), Memory>
-    ensures { OnOk result (text.new.items ≡ text.old.items ++ fraction_text fraction) }
+fn append_fraction(text: &mut Builder, fraction: Frac)
+    ensures { Grows (fraction_text fraction) text.old text.new }
 {
     let mut digits = [0; 80];
     let len = fraction.digits(&mut digits);
-    add(text, &digits[..len])
+    text.append(&digits[..len]);
 }
 
 /// The word for a generator.
@@ -58,59 +52,56 @@ fn generator_word(generator: u32) -> &'static [u8]
     }
 }
 
-fn add_key(text: &mut Vec<u8>, key: (u32, u64)) -> Result<(), Memory>
-    ensures { OnOk result (text.new.items ≡ text.old.items ++ key_text key) }
+fn append_key(text: &mut Builder, key: (u32, u64))
+    ensures { Grows (key_text key) text.old text.new }
 {
-    add(text, generator_word(key.0))?;
-    add_counted(text, b" ", key.1)?;
-    add(text, b"\n")
+    text.append(generator_word(key.0));
+    append_counted(text, b" ", key.1);
+    text.append(b"\n");
 }
 
-fn add_cut(text: &mut Vec<u8>, name: &Name, kept: &Kept) -> Result<(), Memory>
-    ensures { OnOk result (text.new.items ≡ text.old.items ++ cut_line (name.now, kept.now)) }
+fn append_cut(text: &mut Builder, name: &Name, kept: &Kept)
+    ensures { Grows (cut_line (name.now, kept.now)) text.old text.new }
 {
-    add(text, name.as_slice())?;
-    add(text, b" ")?;
-    add_fraction(text, kept.candidate.violation)?;
-    add(text, b" ")?;
-    add_key(text, kept.key)
+    text.append(name.as_slice());
+    text.append(b" ");
+    append_fraction(text, kept.candidate.violation);
+    text.append(b" ");
+    append_key(text, kept.key);
 }
 
-fn add_cuts(text: &mut Vec<u8>, mut names: &[Name], mut cuts: &[Kept]) -> Result<(), Memory>
-    ensures { OnOk result (text.new.items ≡ text.old.items ++ flat_map cut_line (zip names.entry.now cuts.entry.now)) }
+fn append_cuts(text: &mut Builder, mut names: &[Name], mut cuts: &[Kept])
+    ensures { Grows (flat_map cut_line (zip names.entry.now cuts.entry.now)) text.old text.new }
 {
     'cuts: while let Some((kept, later)) = cuts.split_first() {
         let Some((name, others)) = names.split_first() else {
-            return Ok(());
+            return;
         };
-        add_cut(text, name, kept)?;
+        append_cut(text, name, kept);
         names = others;
         cuts = later;
     }
-    Ok(())
 }
 
-fn add_wides(text: &mut Vec<u8>, wides: &[(u32, u64)]) -> Result<(), Memory>
-    ensures { OnOk result (text.new.items ≡ text.old.items ++ flat_map wide_line wides.now) }
+fn append_wides(text: &mut Builder, wides: &[(u32, u64)])
+    ensures { Grows (flat_map wide_line wides.now) text.old text.new }
 {
     for key in wides {
-        add(text, b"wide ")?;
-        add_key(text, *key)?;
+        text.append(b"wide ");
+        append_key(text, *key);
     }
-    Ok(())
 }
 
 /// How many cuts and how many wide items there are.
-fn add_head(text: &mut Vec<u8>, cuts: usize, wides: usize) -> Result<(), Memory>
-    ensures { OnOk result (text.new.items ≡ text.old.items ++ codes "cuts " ++ decimal cuts ++ codes " wide " ++ decimal wides ++ codes "\n") }
+fn append_head(text: &mut Builder, cuts: usize, wides: usize)
+    ensures { Grows (codes "cuts " ++ decimal cuts ++ codes " wide " ++ decimal wides ++ codes "\n") text.old text.new }
 {
-    add_counted(text, b"cuts ", cuts as u64)?;
-    add_counted(text, b" wide ", wides as u64)?;
-    add(text, b"\n")
+    append_counted(text, b"cuts ", cuts as u64);
+    append_counted(text, b" wide ", wides as u64);
+    text.append(b"\n");
 }
 
 /// The report of the listed cuts, under the names of their rows, and of the wide items.
-#[tactic(auto, unfolding(crate::specs::Report::report_text))]
 pub fn report_text(
     alloc: Global,
     names: &[Name],
@@ -119,11 +110,11 @@ pub fn report_text(
 ) -> Result<Vec<u8>, Memory>
     ensures { IfOk result (λ text. text.items ≡ report_text names.now cuts.now wides.now) }
 {
-    let mut text = Vec::new(alloc);
-    add_head(&mut text, cuts.len(), wides.len())?;
-    add_cuts(&mut text, names, cuts)?;
-    add_wides(&mut text, wides)?;
-    Ok(text)
+    let mut text = Builder::new(alloc);
+    append_head(&mut text, cuts.len(), wides.len());
+    append_cuts(&mut text, names, cuts);
+    append_wides(&mut text, wides);
+    text.finish()
 }
 
 /// How many entries the columns have.
@@ -140,25 +131,27 @@ fn entries(columns: &[Column]) -> u64
     count
 }
 
-fn add_counts(text: &mut Vec<u8>, rows: usize, cols: usize, entries: u64) -> Result<(), Memory>
-    ensures { OnOk result (text.new.items ≡ text.old.items ++ codes "rows " ++ decimal rows ++ codes " cols " ++ decimal cols
-        ++ codes " entries " ++ decimal entries ++ codes "\n") }
+fn append_counts(text: &mut Builder, rows: usize, cols: usize, entries: u64)
+    ensures { Grows (codes "rows " ++ decimal rows ++ codes " cols " ++ decimal cols ++ codes " entries " ++ decimal entries ++ codes "\n") text.old text.new }
 {
-    add_counted(text, b"rows ", rows as u64)?;
-    add_counted(text, b" cols ", cols as u64)?;
-    add_counted(text, b" entries ", entries)?;
-    add(text, b"\n")
+    append_counted(text, b"rows ", rows as u64);
+    append_counted(text, b" cols ", cols as u64);
+    append_counted(text, b" entries ", entries);
+    text.append(b"\n");
 }
 
 /// How many rows, columns and entries the model has.
-#[tactic(auto, unfolding(crate::specs::Report::counts_text))]
 pub fn counts_text(alloc: Global, model: &Model) -> Result<Vec<u8>, Memory>
     requires { IsSized model.now }
     ensures { IfOk result (λ text. text.items ≡ counts_text model.now) }
 {
-    let mut text = Vec::new(alloc);
-    let rows = model.rows.as_slice().len();
+    let mut text = Builder::new(alloc);
     let cols = model.cols.as_slice();
-    add_counts(&mut text, rows, cols.len(), entries(cols))?;
-    Ok(text)
+    append_counts(
+        &mut text,
+        model.rows.as_slice().len(),
+        cols.len(),
+        entries(cols),
+    );
+    text.finish()
 }
