@@ -1,6 +1,7 @@
 -- From the steps of a cut in memory to its texts.
 use Rattle.std.specs.Result.{result_err}
-use Rattle.std.proofs.Common.{◌≡◌, ◌^◌, ℕ, Bool, arith, nat_lt, true, false, ◌||◌, List, [], ◌∷◌, length, map, zip, Some, None, Vec, Result, Ok, Err, IfErr, refl, sym, ap, subst, ◌∙◌, ◌⊎◌, inl, inr}
+use Rattle.std.proofs.lemmas.List.{map-append}
+use Rattle.std.proofs.Common.{◌≡◌, ◌++◌, ◌^◌, ℕ, Bool, arith, nat_lt, true, false, ◌||◌, List, [], ◌∷◌, length, map, zip, Some, None, Vec, Result, Ok, Err, IfErr, refl, sym, ap, subst, ◌∙◌, ◌⊎◌, inl, inr}
 use Rattle.std.proofs.lemmas.Bool.Decides.{nat_tests}
 use Rattle.std.specs.declared.alloc.Global.{Global}
 use Rattle.cgl_model.specs.declared.linear.Ineq.{Ineq}
@@ -19,6 +20,10 @@ use Rattle.cgl_app.specs.declared.refusal.Refusal.TheVariants.{TooLarge, Memory}
 use Rattle.cgl_app.specs.CutOf.{answers, extension, inequality_of, is_too_large, is_too_long, listed_cuts, proof_of, proofs_of, report_of}
 use Rattle.cgl_app.specs.CutSteps.{AreTexts, IsExtendedText, TextsRefused, derivation_of}
 use Rattle.cgl_app.specs.Report.{report_text}
+
+-- one more item
+pub mapped_more : {A B : Type 0} (f : A → B) (xs : List A) (x : A) (old new : List B) → old ≡ map f xs → new ≡ old ++ f x ∷ [] → new ≡ map f (xs ++ x ∷ [])
+mapped_more f xs x old new so_far more = more ∙ ap (λ z. z ++ f x ∷ []) so_far ∙ sym (map-append f xs (x ∷ []))
 
 pub with_err : {A E : Type 0} (P : E → Type 0) (result : Result A E) (e : E) → result_err result ≡ Some e → P e → IfErr result P
 with_err P (Ok x) e is p = tt

@@ -1,4 +1,4 @@
-ghost use Rattle.std.specs.Prelude.{◌≡◌, map, codes};
+ghost use Rattle.std.specs.Prelude.{◌≡◌, ◌∷◌, [], map, codes, decimal};
 ghost use Rattle.cgl_app.specs.Lines.{Says, line_of, joined};
 ghost use Rattle.cgl_app.specs.Commands.{name_of};
 ghost use Rattle.cgl_app.specs.Meant.{meant};
@@ -45,44 +45,43 @@ pub fn say_usage<E: Sink>(err: &mut E)
     say(err, &[b"cgl: bad command line\n"]);
 }
 
+/// Says that something went wrong with a file.
+fn say_fault<E: Sink>(err: &mut E, what: &[u8], name: &str)
+    ensures { Says (E.written err.old) (E.written err.new) (E.faults err.old) (E.faults err.new) (joined (what.now ∷ name.now ∷ codes "\n" ∷ [])) }
+{
+    say(err, &[what, name.as_bytes(), b"\n"]);
+}
+
+/// Says where a file is not in form.
+fn say_input<E: Sink>(err: &mut E, name: &str, line: u64, kind: u8)
+    ensures { Says (E.written err.old) (E.written err.new) (E.faults err.old) (E.faults err.new)
+        (joined (codes "cgl: input fault: " ∷ name.now ∷ codes " line " ∷ decimal line ∷ codes " kind " ∷ decimal kind ∷ codes "\n" ∷ [])) }
+{
+    let mut lines = Buffer::new();
+    let mut kinds = Buffer::new();
+    say(
+        err,
+        &[
+            b"cgl: input fault: ",
+            name.as_bytes(),
+            b" line ",
+            lines.format(line).as_bytes(),
+            b" kind ",
+            kinds.format(kind).as_bytes(),
+            b"\n",
+        ],
+    );
+}
+
 /// Tells why the command did not do its work.
 pub fn say_why<E: Sink>(err: &mut E, command: &Command<'_>, refusal: Refusal)
     ensures { Says (E.written err.old) (E.written err.new) (E.faults err.old) (E.faults err.new) (line_of (name_of (meant command.now)) refusal) }
 {
     match refusal {
-        Refusal::Usage => say(err, &[b"cgl: bad command line\n"]),
-        Refusal::ReadFault(file) => say(
-            err,
-            &[
-                b"cgl: read fault: ",
-                name_of(command, file).as_bytes(),
-                b"\n",
-            ],
-        ),
-        Refusal::WriteFault(file) => say(
-            err,
-            &[
-                b"cgl: write fault: ",
-                name_of(command, file).as_bytes(),
-                b"\n",
-            ],
-        ),
-        Refusal::Input { file, line, kind } => {
-            let mut lines = Buffer::new();
-            let mut kinds = Buffer::new();
-            say(
-                err,
-                &[
-                    b"cgl: input fault: ",
-                    name_of(command, file).as_bytes(),
-                    b" line ",
-                    lines.format(line).as_bytes(),
-                    b" kind ",
-                    kinds.format(kind).as_bytes(),
-                    b"\n",
-                ],
-            );
-        }
+        Refusal::Usage => say_usage(err),
+        Refusal::ReadFault(file) => say_fault(err, b"cgl: read fault: ", name_of(command, file)),
+        Refusal::WriteFault(file) => say_fault(err, b"cgl: write fault: ", name_of(command, file)),
+        Refusal::Input { file, line, kind } => say_input(err, name_of(command, file), line, kind),
         Refusal::TooLarge => say(err, &[b"cgl: too large\n"]),
         Refusal::Memory => say(err, &[b"cgl: out of memory\n"]),
     }
