@@ -15,6 +15,8 @@ use Rattle.std.specs.Prelude.{IfOk, IfErr, IsErrOf}
 use Rattle.cgl_model.specs.Point.{Point}
 use Rattle.cgl_outside.specs.declared.errors.ReadError.{ReadError}
 use Rattle.cgl_outside.specs.declared.errors.ReadError.TheVariants.{Fault as ReadLine, ReadFault, Memory as NoMemory}
+use Rattle.cgl_outside.specs.declared.errors.FetchError.{FetchError}
+use Rattle.cgl_outside.specs.declared.errors.FetchError.TheVariants.{ReadFault as Unread, Memory as OutOfMemory}
 use Rattle.cgl_outside.specs.Means.{Means, MeansFault}
 use Rattle.cgl_where.proofs.ReadingLaws.{reads_alike}
 use Rattle.cgl_text.proofs.FrontLaws.{SameButLast, lines_of_front, over_front, over_last}
@@ -109,3 +111,16 @@ tells_no_read bytes m (Ok x) is e = cc
 tells_no_read bytes m (Err (ReadLine line kind)) is e = cc
 tells_no_read bytes m (Err ReadFault) is e = is
 tells_no_read bytes m (Err NoMemory) is e = cc
+
+-- ---- a reading that did not fail
+
+pub memory_is_none : {X : Type 0} → IsErrOf {T = X} (Err NoMemory) ReadFault → ⊥
+memory_is_none e = cc
+
+pub reads_kept : {X P : Type 0} (r : Result X FetchError) (e : FetchError) → r ≡ Err e → e ≡ OutOfMemory → IsErrOf r Unread ⊎ P → P
+reads_kept r e is none (inl bad) = cc
+reads_kept r e is none (inr kept) = kept
+
+pub reads_done : {X P : Type 0} (r : Result X FetchError) (x : X) → r ≡ Ok x → IsErrOf r Unread ⊎ P → P
+reads_done r x is (inl bad) = cc
+reads_done r x is (inr kept) = kept

@@ -1,9 +1,11 @@
 -- Values: digits that are too many, fractions with denominators above 0.
-use Rattle.std.proofs.Common.{◌≡◌, refl, sym, ap, ◌∙◌, arith, ℕ, suc, ◌+◌, ◌-◌, ◌*◌, ◌^◌, ◌<◌, ◌≤◌, nat_lt, Bool, true, false, cond, ◌&&◌, length, take, drop, drop-cons, get_or, Some, None, mul-le-mul_right}
-use Rattle.std.proofs.lemmas.List.{take-append-drop}
+use Rattle.std.proofs.Common.{◌≡◌, refl, sym, ap, ap₂, ◌∙◌, arith, ℕ, suc, ◌+◌, ◌-◌, ◌*◌, ◌^◌, ◌<◌, ◌≤◌, ◌==◌, nat_lt, Bool, true, false, cond, ◌&&◌, [], ◌∷◌, length, take, drop, drop-cons, get_or, Some, None, mul-le-mul_right}
+use Rattle.std.specs.List.{list_all}
+use Rattle.std.proofs.lemmas.List.{take-append-drop, take_all, take_more}
+use Rattle.std.proofs.lemmas.List.Folds.{list_all_at, list_all_more}
 use Rattle.std.proofs.lemmas.List.Sums.{fold-append}
 use Rattle.std.proofs.lemmas.Bool.Decides.{nat_tests}
-use Rattle.cgl_num.specs.NumberText.{Word, natural, is_digits}
+use Rattle.cgl_num.specs.NumberText.{Word, natural, is_digit, is_digits}
 use Rattle.cgl_num.proofs.DigitLaws.{digits_from, digits-low}
 use Rattle.cgl_num.proofs.DecimalLaws.{tens_pos, tens_mono}
 use Rattle.std.specs.Prelude.{pos}
@@ -39,3 +41,42 @@ zero_is = refl
 
 pub power_within : (k : ℕ) → k < 31 → 10 ^ k ≤ 10 ^ 30
 power_within k lt = tens_mono k 30 (omega (arith, lt))
+
+-- ---- the digits of a number
+
+and_false : (b : Bool) → (b && false) ≡ false
+and_false true = refl
+and_false false = refl
+
+some_left : (n : ℕ) → (suc n == 0) ≡ false
+some_left n = grind (arith, nat_tests)
+
+pub digit_kept : (digits : Word) (i : ℕ) (b : Bool) → i < length digits → b ≡ is_digit (get_or digits i 0) → b ≡ true → list_all is_digit (take i digits) ≡ true
+    → list_all is_digit (take (i + 1) digits) ≡ true
+digit_kept digits i b lt is met before = list_all_more is_digit digits i 0 lt ∙ ap₂ (λ (p q : Bool). p && q) before (sym is ∙ met)
+
+pub no_digit : (digits : Word) (i : ℕ) (b : Bool) → i < length digits → b ≡ is_digit (get_or digits i 0) → b ≡ false → false ≡ is_digits digits
+no_digit digits i b lt is unmet = sym (ap (λ (q : Bool). nat_lt 0 (length digits) && q) (list_all_at is_digit digits i 0 lt (sym is ∙ unmet)) ∙ and_false (nat_lt 0 (length digits)))
+
+pub no_digits : (digits : Word) (b : Bool) → b ≡ (length digits == 0) → b ≡ true → false ≡ is_digits digits
+no_digits [] b is met = refl
+no_digits (d ∷ digits) b is met = cc (some_left (length digits))
+
+pub all_digits : (digits : Word) (i : ℕ) (b : Bool) → b ≡ (length digits == 0) → b ≡ false → length digits ≤ i → list_all is_digit (take i digits) ≡ true → true ≡ is_digits digits
+all_digits digits i b is some end all =
+    let first : nat_lt 0 (length digits) ≡ true = grind (arith, nat_tests) in
+    sym (ap₂ (λ (p q : Bool). p && q) first (sym (ap (list_all is_digit) (take_all i digits end)) ∙ all))
+
+pub natural_more : (digits : Word) (i number : ℕ) → i < length digits → number ≡ natural (take i digits) → 10 * number + (get_or digits i 0 - 48) ≡ natural (take (i + 1) digits)
+natural_more digits i number lt is =
+    ap (λ n. 10 * n + (get_or digits i 0 - 48)) is
+    ∙ sym (ap natural (take_more digits i 0 lt) ∙ fold-append (λ n b. 10 * n + (b - 48)) 0 (take i digits) (get_or digits i 0 ∷ []))
+
+pub natural_fits : (digits : Word) (i number : ℕ) (b : Bool) → b ≡ is_digits digits → b ≡ true → length digits ≤ i → number ≡ natural (take i digits) → number < 10 ^ 36 → Some number ≡ fitting_natural digits
+natural_fits digits i number b is met end value below =
+    let all : number ≡ natural digits = value ∙ ap natural (take_all i digits end) in
+    let within : nat_lt (natural digits) (10 ^ 36) ≡ true = grind (arith, nat_tests) in
+    ap Some all ∙ sym (ap₂ (λ (p q : Bool). cond (p && q) (Some (natural digits)) None) (sym is ∙ met) within)
+
+pub no_natural : (digits : Word) (b : Bool) → b ≡ is_digits digits → b ≡ false → None ≡ fitting_natural digits
+no_natural digits b is unmet = ap (λ (p : Bool). cond (p && nat_lt (natural digits) (10 ^ 36)) (Some (natural digits)) None) (sym unmet ∙ is)

@@ -4,12 +4,12 @@ ghost use Rattle.std.specs.Prelude.{◌≡◌, ◌<◌, ◌∷◌, ◌++◌, [],
 ghost use Rattle.cgl_where.specs.Carried.{Carries, FollowsLine, IsSound, TakesIn, carried_conditions, carried_value, named_at};
 ghost use Rattle.cgl_where.specs.Limits.{ArePositive};
 ghost use Rattle.cgl_text.specs.Conditions.{first_kind};
-ghost use Rattle.cgl_where.specs.PointFile.{is_too_fine, point_in};
+ghost use Rattle.cgl_where.specs.PointFile.{is_too_fine, point_in, record_of};
 
 use crate::columns::Columns;
 use crate::denominators::{grown_denominator, point_in};
 use crate::record::{Record, field};
-use crate::records::is_kept;
+use crate::records::{is_kept, record_of};
 use crate::values::{value, zero};
 use cgl_model::{Column, Point};
 use cgl_num::{Frac, Memory};
@@ -128,8 +128,8 @@ impl Carried {
         Ok(None)
     }
 
-    /// Takes in a line, unless it is a fault. The kind of the fault. The byte past the limit may stand in the line.
-    pub(crate) fn take_line(
+    /// Takes in the record of a line, unless it is a fault. The kind of the fault. The byte past the limit may stand in the line.
+    fn take_record(
         &mut self,
         columns: &Columns,
         r: &Record,
@@ -148,6 +148,24 @@ impl Carried {
             return Ok(None);
         }
         self.take_value(columns, r)
+    }
+
+    /// Takes in line n, unless it is a fault. The kind of the fault.
+    pub(crate) fn take_line(
+        &mut self,
+        alloc: Global,
+        columns: &Columns,
+        n: u64,
+        line: &[u8],
+        over: bool,
+    ) -> Result<Option<u8>, Memory>
+        requires { IsSound columns.now self.old }
+        ensures { IfOk result (λ kind. FollowsLine columns.now (record_of n line.now) over kind self.old self.new) }
+    {
+        let Ok(r) = record_of(alloc, n, line) else {
+            return Err(Memory);
+        };
+        self.take_record(columns, &r, over)
     }
 
     /// The values of the columns over their least common denominator.

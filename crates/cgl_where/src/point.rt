@@ -1,9 +1,10 @@
-ghost use Rattle.std.specs.Prelude.{◌≡◌, ◌⊎◌, ℕ, ◌+◌, ◌≤◌, ◌^◌, length, IfOk, IfErr};
+ghost use Rattle.std.specs.Prelude.{◌≡◌, ◌⊎◌, ℕ, ◌+◌, ◌≤◌, ◌^◌, [], length, IfOk, IfErr};
+ghost use Rattle.cgl_text.specs.Text.{lines_of};
+ghost use Rattle.cgl_where.specs.Carried.{Carries};
 ghost use Rattle.cgl_where.specs.PointFile.{point_of, Values, Fault};
 
 use crate::carried::Carried;
 use crate::columns::Columns;
-use crate::records::record_of;
 use cgl_model::{Model, Point};
 use cgl_text::{Lines, is_over};
 use std::alloc::Global;
@@ -24,6 +25,39 @@ pub enum PointError {
     Memory,
 }
 
+/// The point that the lines of a file mean for a model, from what is carried before the first line.
+fn point_from(
+    alloc: Global,
+    bytes: &[u8],
+    columns: &Columns,
+    lines: &Lines,
+    carried: &mut Carried,
+) -> Result<Point, PointError>
+    requires size { length bytes.now ≤ 2 ^ 30 + 1 }
+    requires lines { lines.now ≡ lines_of bytes.now }
+    requires carried { Carries columns.now [] carried.old }
+    ensures point { IfOk result (λ x. point_of bytes.now columns.now ≡ Values x) }
+    ensures sized { IfOk result (λ x. length x.p ≡ length columns.now.cols) }
+    ensures fault { IfErr result (λ e. (e ≡ PointError.Memory)
+        ⊎ ((line : ℕ) × (kind : ℕ) × (e ≡ PointError.Fault line kind) × (point_of bytes.now columns.now ≡ Fault line kind))) }
+{
+    let texts = lines.as_slice();
+    'lines: for (i, line) in texts.iter().enumerate() {
+        let n = i as u64 + 1;
+        let over = is_over(bytes, texts.len(), n);
+        let Ok(fault) = carried.take_line(alloc, columns, n, line, over) else {
+            return Err(PointError::Memory);
+        };
+        if let Some(kind) = fault {
+            return Err(PointError::Fault { line: n, kind });
+        }
+    }
+    match carried.point(alloc, columns) {
+        Ok(point) => Ok(point),
+        Err(_) => Err(PointError::Memory),
+    }
+}
+
 /// The point that a file means for a model, whose columns are at hand.
 fn point_for(alloc: Global, bytes: &[u8], columns: &Columns) -> Result<Point, PointError>
     requires { length bytes.now ≤ 2 ^ 30 + 1 }
@@ -35,27 +69,10 @@ fn point_for(alloc: Global, bytes: &[u8], columns: &Columns) -> Result<Point, Po
     let Ok(lines) = Lines::of(alloc, bytes) else {
         return Err(PointError::Memory);
     };
-    let texts = lines.as_slice();
     let Ok(mut carried) = Carried::new(alloc, columns) else {
         return Err(PointError::Memory);
     };
-    'lines: for (i, line) in texts.iter().enumerate() {
-        let n = i as u64 + 1;
-        let Ok(r) = record_of(alloc, n, line) else {
-            return Err(PointError::Memory);
-        };
-        let over = is_over(bytes, lines.len(), n);
-        let Ok(fault) = carried.take_line(columns, &r, over) else {
-            return Err(PointError::Memory);
-        };
-        if let Some(kind) = fault {
-            return Err(PointError::Fault { line: n, kind });
-        }
-    }
-    match carried.point(alloc, columns) {
-        Ok(point) => Ok(point),
-        Err(_) => Err(PointError::Memory),
-    }
+    point_from(alloc, bytes, columns, &lines, &mut carried)
 }
 
 /// The point that a file means for the model. `bytes` are the whole file, or its first 2^30 + 1

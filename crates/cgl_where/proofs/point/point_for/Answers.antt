@@ -1,52 +1,5 @@
-use Rattle.std.proofs.Common.{◌∙◌, refl, arith, inl, inr, [], ◌+◌, ◌<◌, ◌≤◌, ℕ, List, get_or, length}
-use denote.Ref.{Bor}
-use Rattle.cgl_where.proofs.CarriedLaws.{carries_sound, reads_fault, reads_first, reads_last, reads_next, reads_ready}
+use Rattle.std.proofs.Common.{inl, refl, rules}
 use Rattle.cgl_where.proofs.point.point_for.Goals as goal
-
-pub lines-init : goal.lines-init
-lines-init c =
-    reads_first c.args.bytes.now c.args.columns.now c.as_slice-texts.result.now _ (c.as_slice-texts.ensures ∙ c.in-Ok.ensures) c.in-Ok-new.ensures
-
-pub take_line-requires : goal.take_line-requires
-take_line-requires c = carries_sound c.args.columns.now c.lines.invariant.before _ c.lines.invariant.carries
-
-pub returns-in-Some-clause-fault : goal.returns-in-Some-clause-fault
-returns-in-Some-clause-fault c =
-    let texts = c.as_slice-texts.result.now in
-    let i = c.lines.i in
-    let empty : Bor (List ℕ) = record { ref_ptr = (0, 0); now = [] } in
-    let line = get_or texts i empty in
-    let inside : i < length texts = omega arith in
-    inr (
-      i + 1,
-      c.in-Some.kind,
-      refl,
-      reads_fault c.args.bytes.now c.args.columns.now texts i line empty c.in-Ok-record_of.r c.is_over-over.result c.in-Ok-take_line.fault c.in-Some.kind _ _ refl inside
-          c.in-Ok-record_of.ensures c.is_over-over.ensures c.in-Some.is c.lines.invariant c.in-Ok-take_line.ensures,
-    )
-
-pub lines-preserved : goal.lines-preserved
-lines-preserved c =
-    let texts = c.as_slice-texts.result.now in
-    let i = c.lines.i in
-    let empty : Bor (List ℕ) = record { ref_ptr = (0, 0); now = [] } in
-    let line = get_or texts i empty in
-    let inside : i < length texts = omega arith in
-    reads_next c.args.bytes.now c.args.columns.now texts i line empty c.in-Ok-record_of.r c.is_over-over.result c.in-Ok-take_line.fault _ _ refl inside
-    c.in-Ok-record_of.ensures c.is_over-over.ensures c.in_default-fault.is c.lines.invariant c.in-Ok-take_line.ensures
-
-pub point-requires-clause-positive : goal.point-requires-clause-positive
-point-requires-clause-positive c = (reads_ready _ _ _ _ _ c.lines.invariant).positive
-
-pub point-requires-clause-within : goal.point-requires-clause-within
-point-requires-clause-within c = (reads_ready _ _ _ _ _ c.lines.invariant).within
-
-pub returns-in-Ok-point-clause-point : goal.returns-in-Ok-point-clause-point
-returns-in-Ok-point-clause-point c =
-    let texts = c.as_slice-texts.result.now in
-    let i = c.lines.i in
-    let end : length texts ≤ i = omega arith in
-    reads_last c.args.bytes.now c.args.columns.now (i + 1) texts i _ end c.lines.invariant c.in-Ok-point.point c.in-Ok-point.ensures.point
 
 pub returns-in_default-clause-point : goal.returns-in_default-clause-point
 returns-in_default-clause-point c = tt
@@ -66,41 +19,11 @@ returns-in_default-new-clause-sized c = tt
 pub returns-in_default-new-clause-fault : goal.returns-in_default-new-clause-fault
 returns-in_default-new-clause-fault c = inl refl
 
-pub returns-in_default-record_of-clause-point : goal.returns-in_default-record_of-clause-point
-returns-in_default-record_of-clause-point c = tt
-
-pub returns-in_default-record_of-clause-sized : goal.returns-in_default-record_of-clause-sized
-returns-in_default-record_of-clause-sized c = tt
-
-pub returns-in_default-record_of-clause-fault : goal.returns-in_default-record_of-clause-fault
-returns-in_default-record_of-clause-fault c = inl refl
-
-pub returns-in_default-take_line-clause-point : goal.returns-in_default-take_line-clause-point
-returns-in_default-take_line-clause-point c = tt
-
-pub returns-in_default-take_line-clause-sized : goal.returns-in_default-take_line-clause-sized
-returns-in_default-take_line-clause-sized c = tt
-
-pub returns-in_default-take_line-clause-fault : goal.returns-in_default-take_line-clause-fault
-returns-in_default-take_line-clause-fault c = inl refl
-
 pub returns-clause-point : goal.returns-clause-point
-returns-clause-point c = tt
+returns-clause-point c = c.point_from.ensures.point
 
 pub returns-clause-sized : goal.returns-clause-sized
-returns-clause-sized c = tt
+returns-clause-sized c = c.point_from.ensures.sized
 
 pub returns-clause-fault : goal.returns-clause-fault
-returns-clause-fault c = inl refl
-
-pub returns-in-Some-clause-point : goal.returns-in-Some-clause-point
-returns-in-Some-clause-point c = tt
-
-pub returns-in-Some-clause-sized : goal.returns-in-Some-clause-sized
-returns-in-Some-clause-sized c = tt
-
-pub returns-in-Ok-point-clause-sized : goal.returns-in-Ok-point-clause-sized
-returns-in-Ok-point-clause-sized c = c.in-Ok-point.ensures.sized
-
-pub returns-in-Ok-point-clause-fault : goal.returns-in-Ok-point-clause-fault
-returns-in-Ok-point-clause-fault c = tt
+returns-clause-fault c = c.point_from.ensures.fault

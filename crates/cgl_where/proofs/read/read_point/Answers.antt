@@ -1,5 +1,5 @@
-use Rattle.std.proofs.Common.{arith, refl, inl, ap, length, Err}
-use Rattle.cgl_where.proofs.FrontLaws.{fault_shown, point_shown, tells_no_read}
+use Rattle.std.proofs.Common.{arith, refl, inl, inr, ap, length, Err}
+use Rattle.cgl_where.proofs.FrontLaws.{fault_shown, memory_is_none, point_shown, reads_done, reads_kept, tells_no_read}
 use Rattle.cgl_where.proofs.read.read_point.Goals as goal
 
 pub returns-clause-point : goal.returns-clause-point
@@ -83,3 +83,12 @@ returns-clause-held g c = c.in-Ok.ensures.held
 
 pub returns-clause-writes : goal.returns-clause-writes
 returns-clause-writes g c = c.in-Ok.ensures.writes
+
+pub returns-in-Err-Memory-clause-read_fault : goal.returns-in-Err-Memory-clause-read_fault
+returns-in-Err-Memory-clause-read_fault g c = λ e. absurd (memory_is_none e)
+
+pub returns-in-Err-Memory-clause-reads : goal.returns-in-Err-Memory-clause-reads
+returns-in-Err-Memory-clause-reads g c = inr (reads_kept c.read_front.result c.in-Err-Memory.field-0 c.in-Err-Memory.is c.in-Err-Memory.field-0-is c.read_front.ensures.reads)
+
+pub returns-clause-reads : goal.returns-clause-reads
+returns-clause-reads g c = inr (reads_done c.read_front.result c.in-Ok.bytes c.in-Ok.is c.read_front.ensures.reads)

@@ -1,0 +1,38 @@
+use Rattle.std.proofs.Common.{◌≡◌, ◌∙◌, ap, ap₂, refl, subst, arith, rules, ℕ, ◌/◌, ◌^◌, ◌<◌, nat_le, Bool, true, false, cond, Some, None}
+use Rattle.std.specs.Prelude.{ℤ, pos, ◌*ℤ◌, unsigned_abs}
+use Rattle.std.specs.Int.{w128}
+use Rattle.std.specs.Int.RustNames.{FitsSigned}
+use Rattle.std.proofs.lemmas.Bool.Decides.{nat_tests}
+use Rattle.std.proofs.lemmas.Int.{ints, to_z-of_z, to_z_pos}
+use Rattle.cgl_num.specs.Fraction.{Fraction}
+use Rattle.cgl_where.specs.PointFile.{numerator_over}
+use Rattle.cgl_where.specs.Limits.{fitting_numerator}
+use Rattle.cgl_where.proofs.denominators.numerator_over.Goals as goal
+
+over_is : (d den : ℕ) (f : Fraction) (x y : ℤ) → x ≡ f.num → y ≡ pos (d / den) → den ≡ unsigned_abs f.den → x *ℤ y ≡ numerator_over d f
+over_is d den f x y x_is y_is den_is = ap₂ (λ p q. p *ℤ q) x_is (y_is ∙ ap (λ m. pos (d / m)) den_is)
+
+large_case : (z : ℤ) (b : Bool) → nat_le (2 ^ 100) (unsigned_abs z) ≡ b → (FitsSigned w128 z → ⊥) → None ≡ cond b None (Some z)
+large_case z true e large = refl
+large_case z false e large =
+    let below : unsigned_abs z < 2 ^ 100 = grind (arith, nat_tests) in
+    absurd (large (record { sfits = omega (arith, ints, below) }))
+
+large : (d : ℕ) (f : Fraction) (z : ℤ) → z ≡ numerator_over d f → (FitsSigned w128 z → ⊥) → None ≡ fitting_numerator (numerator_over d f)
+large d f z is h = subst (λ (n : ℤ). None ≡ fitting_numerator n) is (large_case z (nat_le (2 ^ 100) (unsigned_abs z)) refl h)
+
+pub nonzero_div-factor : goal.nonzero_div-factor
+nonzero_div-factor c = c.den.ensures.positive
+
+pub overflow_cast-factor : goal.overflow_cast-factor
+overflow_cast-factor c = search rules
+
+pub returns-in-Some : goal.returns-in-Some
+returns-in-Some c = search rules
+
+pub returns-in-None : goal.returns-in-None
+returns-in-None c =
+    let factor : c.args.d / c.den.result < 2 ^ 127 = omega arith in
+    large c.args.d c.args.f _
+    (over_is c.args.d c.den.result c.args.f _ _ (to_z-of_z w128 c.num.result (record { sfits = c.num.type_inv }) ∙ c.num.ensures.num) (to_z_pos w128 (c.args.d / c.den.result) factor) c.den.ensures.value)
+    c.in-None.ensures

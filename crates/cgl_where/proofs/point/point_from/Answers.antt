@@ -1,0 +1,51 @@
+use Rattle.std.proofs.Common.{◌∙◌, sym, ap, refl, arith, inl, inr, [], ◌+◌, ◌<◌, ◌≤◌, ℕ, List, get_or, length}
+use denote.Ref.{Bor}
+use Rattle.std.proofs.lemmas.List.{length-map}
+use Rattle.cgl_where.specs.PointFile.{record_of}
+use Rattle.cgl_where.proofs.CarriedLaws.{carries_sound, reads_fault, reads_first, reads_last, reads_next, reads_ready}
+use Rattle.cgl_where.proofs.point.point_from.Goals as goal
+
+pub lines-init : goal.lines-init
+lines-init c =
+    reads_first c.args.bytes.now c.args.columns.now c.as_slice-texts.result.now _ (c.as_slice-texts.ensures ∙ c.requires.lines) c.requires.carried
+
+pub take_line-requires : goal.take_line-requires
+take_line-requires c = carries_sound c.args.columns.now c.lines.invariant.before _ c.lines.invariant.carries
+
+pub returns-in-Some-clause-fault : goal.returns-in-Some-clause-fault
+returns-in-Some-clause-fault c =
+    let texts = c.as_slice-texts.result.now in
+    let i = c.lines.i in
+    let empty : Bor (List ℕ) = record { ref_ptr = (0, 0); now = [] } in
+    let line = get_or texts i empty in
+    let inside : i < length texts = omega arith in
+    inr (
+      i + 1,
+      c.in-Some.kind,
+      refl,
+      reads_fault c.args.bytes.now c.args.columns.now texts i line empty (record_of (i + 1) line.now) c.is_over-over.result c.in-Ok.fault c.in-Some.kind _ _ refl inside
+          refl c.is_over-over.ensures c.in-Some.is c.lines.invariant c.in-Ok.ensures,
+    )
+
+pub lines-preserved : goal.lines-preserved
+lines-preserved c =
+    let texts = c.as_slice-texts.result.now in
+    let i = c.lines.i in
+    let empty : Bor (List ℕ) = record { ref_ptr = (0, 0); now = [] } in
+    let line = get_or texts i empty in
+    let inside : i < length texts = omega arith in
+    reads_next c.args.bytes.now c.args.columns.now texts i line empty (record_of (i + 1) line.now) c.is_over-over.result c.in-Ok.fault _ _ refl inside
+    refl c.is_over-over.ensures c.in_default-fault.is c.lines.invariant c.in-Ok.ensures
+
+pub point-requires-clause-positive : goal.point-requires-clause-positive
+point-requires-clause-positive c = (reads_ready _ _ _ _ _ c.lines.invariant).positive
+
+pub point-requires-clause-within : goal.point-requires-clause-within
+point-requires-clause-within c = (reads_ready _ _ _ _ _ c.lines.invariant).within
+
+pub returns-in-Ok-point-clause-point : goal.returns-in-Ok-point-clause-point
+returns-in-Ok-point-clause-point c =
+    let texts = c.as_slice-texts.result.now in
+    let i = c.lines.i in
+    let end : length texts ≤ i = omega arith in
+    reads_last c.args.bytes.now c.args.columns.now (i + 1) texts i _ end c.lines.invariant c.in-Ok-point.point c.in-Ok-point.ensures.point

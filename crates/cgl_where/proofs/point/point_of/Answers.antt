@@ -1,0 +1,29 @@
+use Rattle.std.proofs.Common.{◌≡◌, ◌⊎◌, subst, inl, refl, ℕ, length}
+use Rattle.std.specs.Prelude.{IfOk, IfErr}
+use Rattle.cgl_model.specs.declared.mip.Model.{Model}
+use Rattle.cgl_where.specs.PointFile.{Fault, Values, point_of}
+use Rattle.cgl_where.specs.declared.point.PointError.TheVariants.{Fault as BadLine, Memory}
+use Rattle.cgl_where.proofs.point.point_of.Goals as goal
+
+pub returns-in_default-clause-point : goal.returns-in_default-clause-point
+returns-in_default-clause-point c = tt
+
+pub returns-in_default-clause-sized : goal.returns-in_default-clause-sized
+returns-in_default-clause-sized c = tt
+
+pub returns-in_default-clause-fault : goal.returns-in_default-clause-fault
+returns-in_default-clause-fault c = inl refl
+
+pub point_for-requires : goal.point_for-requires
+point_for-requires c = c.requires
+
+pub returns-clause-point : goal.returns-clause-point
+returns-clause-point c = subst (λ (m : Model). IfOk c.point_for.result (λ x. point_of c.args.bytes.now m ≡ Values x)) c.in-Ok.ensures c.point_for.ensures.point
+
+pub returns-clause-sized : goal.returns-clause-sized
+returns-clause-sized c = subst (λ (m : Model). IfOk c.point_for.result (λ x. length x.p ≡ length m.cols)) c.in-Ok.ensures c.point_for.ensures.sized
+
+pub returns-clause-fault : goal.returns-clause-fault
+returns-clause-fault c =
+    subst (λ (m : Model). IfErr c.point_for.result (λ e. (e ≡ Memory) ⊎ ((line : ℕ) × (kind : ℕ) × (e ≡ BadLine line kind) × (point_of c.args.bytes.now m ≡ Fault line kind))))
+    c.in-Ok.ensures c.point_for.ensures.fault
