@@ -86,27 +86,6 @@ fn answers(alloc: Global, model: &Model, point: &Point) -> Result<Vec<Stamped>, 
     side_answers(alloc, model, point, forms.sides())
 }
 
-/// Puts the inequality and the derivation of a cut behind those of the cuts before.
-fn add_part(
-    cuts: &mut Vec<Ineq>,
-    derivations: &mut Vec<Derivation>,
-    kept: Kept,
-) -> Result<(), Memory>
-    ensures cuts { OnOk result (cuts.new.items ≡ cuts.old.items ++ inequality_of kept ∷ []) }
-    ensures derivations { OnOk result (derivations.new.items ≡ derivations.old.items ++ derivation_of kept ∷ []) }
-{
-    let Kept { key: _, candidate } = kept;
-    let Candidate {
-        cut,
-        derivation,
-        violation: _,
-    } = candidate;
-    let (Ok(()), Ok(())) = (cuts.push(cut), derivations.push(derivation)) else {
-        return Err(Memory);
-    };
-    Ok(())
-}
-
 /// The listed cuts as inequalities and their derivations.
 fn parts(alloc: Global, listed: Vec<Kept>) -> Result<(Vec<Ineq>, Vec<Derivation>), Memory>
     ensures cuts { IfOk result (λ parts. parts.0.items ≡ map inequality_of listed.items) }
@@ -115,7 +94,15 @@ fn parts(alloc: Global, listed: Vec<Kept>) -> Result<(Vec<Ineq>, Vec<Derivation>
     let mut cuts = Vec::new(alloc);
     let mut derivations = Vec::new(alloc);
     'listed: for kept in listed {
-        add_part(&mut cuts, &mut derivations, kept)?;
+        let Kept { key: _, candidate } = kept;
+        let Candidate {
+            cut,
+            derivation,
+            violation: _,
+        } = candidate;
+        let (Ok(()), Ok(())) = (cuts.push(cut), derivations.push(derivation)) else {
+            return Err(Memory);
+        };
     }
     Ok((cuts, derivations))
 }
