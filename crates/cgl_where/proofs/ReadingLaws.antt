@@ -1,7 +1,7 @@
 -- One reading, line by line, gives the outcome that the filters over all records say.
 use Rattle.std.proofs.Common.{◌≡◌, refl, sym, ap, ◌∙◌, arith, ℕ, ◌+◌, ◌<◌, ◌≤◌, nat_lt, Bool, true, false, cond, List, [], ◌∷◌, ◌++◌, append-nil, append_assoc, length, drop, get_or, filter_map, option_map, Option, Some, None}
 use Rattle.std.specs.List.{cons_option}
-use Rattle.std.proofs.lemmas.List.{drop_more}
+use Rattle.std.proofs.lemmas.List.{drop_more, length-map}
 use Rattle.std.proofs.lemmas.List.Elements.{filter-append}
 use denote.Ref.{Bor}
 use Rattle.cgl_text.specs.Text.{lines_of, is_over, most_bytes}
@@ -130,3 +130,6 @@ point_reads bytes m lines is = ap (read_from most_bytes bytes m 1 []) is ∙ sym
 
 pub over_at : (bytes : List ℕ) (i : ℕ) (line : List ℕ) (r : Record) (over : Bool) → r ≡ record_of (i + 1) line → over ≡ is_over most_bytes bytes (i + 1) → over ≡ is_over most_bytes bytes r.line
 over_at bytes i line r over is e = e ∙ ap (λ (q : Record). is_over most_bytes bytes q.line) (sym is)
+
+pub count_lines : (bytes : List ℕ) (lines : List (Bor (List ℕ))) (found : List (List ℕ)) (n : ℕ) → n ≡ length lines → words lines ≡ found → found ≡ lines_of bytes → n ≡ length (lines_of bytes)
+count_lines bytes lines found n count is all = count ∙ sym (length-map lines (λ (line : Bor (List ℕ)). line.now)) ∙ ap length (is ∙ all)

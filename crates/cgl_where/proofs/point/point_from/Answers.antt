@@ -1,8 +1,8 @@
 use Rattle.std.proofs.Common.{◌∙◌, sym, ap, refl, arith, inl, inr, [], ◌+◌, ◌<◌, ◌≤◌, ℕ, List, get_or, length}
 use denote.Ref.{Bor}
-use Rattle.std.proofs.lemmas.List.{length-map}
 use Rattle.cgl_where.specs.PointFile.{record_of}
 use Rattle.cgl_where.proofs.CarriedLaws.{carries_sound, reads_fault, reads_first, reads_last, reads_next, reads_ready}
+use Rattle.cgl_where.proofs.ReadingLaws.{count_lines}
 use Rattle.cgl_where.proofs.point.point_from.Goals as goal
 
 pub lines-init : goal.lines-init
@@ -49,3 +49,39 @@ returns-in-Ok-point-clause-point c =
     let i = c.lines.i in
     let end : length texts ≤ i = omega arith in
     reads_last c.args.bytes.now c.args.columns.now (i + 1) texts i _ end c.lines.invariant c.in-Ok-point.point c.in-Ok-point.ensures.point
+
+pub is_over-over-requires : goal.is_over-over-requires
+is_over-over-requires c = record {
+  size = c.requires.size;
+  count = count_lines c.args.bytes.now c.as_slice-texts.result.now _ _ refl c.as_slice-texts.ensures c.requires.lines;
+}
+
+pub returns-in_default-clause-point : goal.returns-in_default-clause-point
+returns-in_default-clause-point c = tt
+
+pub returns-in_default-clause-sized : goal.returns-in_default-clause-sized
+returns-in_default-clause-sized c = tt
+
+pub returns-in_default-clause-fault : goal.returns-in_default-clause-fault
+returns-in_default-clause-fault c = inl refl
+
+pub returns-in-Err-clause-point : goal.returns-in-Err-clause-point
+returns-in-Err-clause-point c = tt
+
+pub returns-in-Err-clause-sized : goal.returns-in-Err-clause-sized
+returns-in-Err-clause-sized c = tt
+
+pub returns-in-Err-clause-fault : goal.returns-in-Err-clause-fault
+returns-in-Err-clause-fault c = inl refl
+
+pub returns-in-Some-clause-point : goal.returns-in-Some-clause-point
+returns-in-Some-clause-point c = tt
+
+pub returns-in-Some-clause-sized : goal.returns-in-Some-clause-sized
+returns-in-Some-clause-sized c = tt
+
+pub returns-in-Ok-point-clause-sized : goal.returns-in-Ok-point-clause-sized
+returns-in-Ok-point-clause-sized c = c.in-Ok-point.ensures.sized
+
+pub returns-in-Ok-point-clause-fault : goal.returns-in-Ok-point-clause-fault
+returns-in-Ok-point-clause-fault c = tt
