@@ -48,15 +48,21 @@ new_kind : (m : Model) (carried : Carried) (r : Record) (kind : Option ℕ) → 
     → kind ≡ first_kind (carried_conditions m carried r)
 new_kind m carried r kind new is = kind_later _ 3 _ _ new.two (kind_later _ 6 _ _ new.found (kind_later _ 14 _ _ new.unnamed is))
 
-pub is_new : (m : Model) (carried : Carried) (r : Record) (o : Option ℕ) (column : ℕ) (named : List (Option Fraction)) (at : Option Fraction) (b : Bool) → not (length r.fields == 2) ≡ false
-    → o ≡ column_number m (field 0 r) → o ≡ Some column → named ≡ carried.named.items → at ≡ named_at named (Some column) → b ≡ is_some at → b ≡ false → IsNew m carried r
-is_new m carried r o column named at b two is some named_is at_is b_is unnamed =
+pub is_new : (m : Model) (carried : Carried) (r : Record) (o : Option ℕ) (column : ℕ) (b : Bool) → not (length r.fields == 2) ≡ false
+    → o ≡ column_number m (field 0 r) → o ≡ Some column → b ≡ is_some (named_at carried.named.items (Some column)) → b ≡ false → IsNew m carried r
+is_new m carried r o column b two is some b_is unnamed =
     let number : column_number m (field 0 r) ≡ Some column = sym is ∙ some in
     record {
       two = two;
       found = ap is_none number;
-      unnamed = ap (λ p. is_some (named_at carried.named.items p)) number ∙ ap (λ l. is_some (named_at l (Some column))) (sym named_is) ∙ ap is_some (sym at_is) ∙ sym b_is ∙ unnamed;
+      unnamed = ap (λ p. is_some (named_at carried.named.items p)) number ∙ sym b_is ∙ unnamed;
     }
+
+pub kind_named : (m : Model) (carried : Carried) (r : Record) (o : Option ℕ) (column : ℕ) (b : Bool) → not (length r.fields == 2) ≡ false
+    → o ≡ column_number m (field 0 r) → o ≡ Some column → b ≡ is_some (named_at carried.named.items (Some column)) → b ≡ true → Some 14 ≡ first_kind (carried_conditions m carried r)
+kind_named m carried r o column b two is some b_is named =
+    let number : column_number m (field 0 r) ≡ Some column = sym is ∙ some in
+    kind_later _ 3 _ _ two (kind_later _ 6 _ _ (ap is_none number) (kind_here _ 14 _ (ap (λ p. is_some (named_at carried.named.items p)) number ∙ sym b_is ∙ named)))
 
 pub kind_value : (m : Model) (carried : Carried) (r : Record) (o : Option Fraction) → IsNew m carried r → o ≡ value (field 1 r) → o ≡ None
     → Some 4 ≡ first_kind (carried_conditions m carried r)

@@ -1,6 +1,6 @@
 //! What a reader of a point file carries from line to line.
 
-ghost use Rattle.std.specs.Prelude.{◌≡◌, ◌<◌, ◌∷◌, ◌++◌, [], length, map, slice_set, IfOk, OnOk, None, Some, false};
+ghost use Rattle.std.specs.Prelude.{◌≡◌, ◌<◌, ◌∷◌, ◌++◌, [], length, map, slice_set, IfOk, OnOk, None, Some, is_some, false};
 ghost use Rattle.cgl_where.specs.Carried.{Carries, FollowsLine, IsSound, TakesIn, carried_conditions, carried_value, named_at};
 ghost use Rattle.cgl_where.specs.Limits.{ArePositive};
 ghost use Rattle.cgl_text.specs.Conditions.{first_kind};
@@ -85,6 +85,13 @@ impl Carried {
         })
     }
 
+    /// Whether a line named the column of this number.
+    fn is_named(&self, column: usize) -> bool
+        ensures { result ≡ is_some (named_at self.now.named.items (Some column)) }
+    {
+        named_at(self.named.as_slice(), Some(column)).is_some()
+    }
+
     /// Takes in the value of a column.
     fn put(&mut self, column: usize, value: Frac, denominator: u128) -> Result<(), Memory>
         requires { column < length self.old.named.items }
@@ -112,7 +119,7 @@ impl Carried {
         let Some(column) = columns.find(field(r, 0)) else {
             return Ok(Some(6));
         };
-        if named_at(self.named.as_slice(), Some(column)).is_some() {
+        if self.is_named(column) {
             return Ok(Some(14));
         }
         let Some(taken) = value(field(r, 1)) else {
