@@ -94,7 +94,7 @@ pub fn put(out: &mut SureSink, text: &str) {
     let _done = out.put(text.as_bytes());
 }
 
-/// Puts bytes on one line: each line feed as `\n`.
+/// Puts bytes on one line: each line feed as `\n`. The texts that are told are of printable bytes and line feeds.
 pub fn put_line(out: &mut SureSink, bytes: &[u8]) {
     for byte in bytes {
         if *byte == b'\n' {

@@ -106,7 +106,9 @@ fn put_text(out: &mut SureSink, model: &Model, text: &[u8], file: Option<&[u8]>)
 fn tell_text(alloc: Global, out: &mut SureSink, files: &mut SureShelf, model: &Model)
     requires { IsValid model.now }
 {
-    let _written = write_deck(alloc, model, files, "text");
+    let Ok(()) = write_deck(alloc, model, files, "text") else {
+        return;
+    };
     if let Ok(text) = deck_text(alloc, model) {
         put_text(out, model, &text, files.file("text"));
     }
