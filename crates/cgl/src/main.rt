@@ -23,6 +23,7 @@ fn given_words(rt: &HostRuntime) -> io::Result<Vec<String>> {
     }
 }
 
+/// The words behind the program's name. There may be no name: none stands for words that are not UTF-8.
 fn behind_name(words: &[String]) -> &[String] {
     match words {
         [_, rest @ ..] => rest,

@@ -45,7 +45,7 @@ pub fn say_usage<E: Sink>(err: &mut E)
     say(err, &[b"cgl: bad command line\n"]);
 }
 
-/// Says that something went wrong with a file.
+/// Says what went wrong, and the name of the file that it went wrong with.
 fn say_fault<E: Sink>(err: &mut E, what: &[u8], name: &str)
     ensures { Says (E.written err.old) (E.written err.new) (E.faults err.old) (E.faults err.new) (joined (what.now ∷ name.now ∷ codes "\n" ∷ [])) }
 {

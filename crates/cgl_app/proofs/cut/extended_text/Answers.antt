@@ -1,4 +1,4 @@
-use Rattle.std.proofs.Common.{refl, inr, rules}
+use Rattle.std.proofs.Common.{refl, inl, inr, rules}
 use Rattle.cgl_deck.proofs.ExtensionLaws.{not_decimal_refused, too_many_refused, unknown_refused}
 use Rattle.cgl_app.proofs.cut.extended_text.Goals as goal
 
@@ -16,3 +16,6 @@ pub returns-in-Err-TooMany-clause-refused : goal.returns-in-Err-TooMany-clause-r
 returns-in-Err-TooMany-clause-refused c =
     let says = rw c.in-Err-TooMany.field-0-is at c.in-Err-TooMany.ensures in
     inr (refl, too_many_refused c.args.model.now c.args.cuts.now (says.too_many (search rules)))
+
+pub returns-in-Err-Memory-clause-refused : goal.returns-in-Err-Memory-clause-refused
+returns-in-Err-Memory-clause-refused c = inl refl
