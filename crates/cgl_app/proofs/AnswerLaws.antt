@@ -8,9 +8,9 @@ use Rattle.cgl_model.specs.Inequality.{AreColumnsBelow}
 use Rattle.cgl_model.specs.IntegerForm.{forms_of}
 use Rattle.cgl_model.specs.Point.{Point}
 use Rattle.cgl_model.proofs.ColumnLaws.{sides_below}
-use Rattle.cgl_gen.specs.RoundMember.{round_member}
-use Rattle.cgl_pool.specs.declared.pool.Stamped.{Stamped}
-use Rattle.cgl_pool.specs.Listed.{HaveDistinctKeys}
+use Rattle.cgl_cuts.specs.RoundMember.{round_member}
+use Rattle.cgl_cuts.specs.declared.pool.pool.Stamped.{Stamped}
+use Rattle.cgl_cuts.specs.Listed.{HaveDistinctKeys}
 use Rattle.cgl_app.specs.CutOf.{answers, round_answers_from}
 
 pub all_at : {A : Type 0} (P : A → Type 0) (xs : List A) (i : ℕ) (x : A) → AllByRecursion P xs → i < length xs → x ≡ get_or xs i x → P x

@@ -16,17 +16,17 @@ use Rattle.cgl_model.specs.Rising.{IsRising}
 use Rattle.cgl_model.proofs.ColumnLaws.{sides_below}
 use Rattle.cgl_model.proofs.RisingLaws.{sides_rising}
 use Rattle.cgl_model.proofs.SideLaws.{feasible_sides}
-use Rattle.cgl_derive.specs.declared.answer.Answer.{Answer}
-use Rattle.cgl_derive.specs.declared.answer.Answer.TheVariants.{Nothing, Cut, Wide}
-use Rattle.cgl_derive.specs.declared.answer.Candidate.{Candidate}
-use Rattle.cgl_derive.specs.Derives.{AreColumns}
-use Rattle.cgl_derive.specs.Meaning.{side_at}
-use Rattle.cgl_gen.specs.RoundMember.{round_member}
-use Rattle.cgl_gen.proofs.CutProofs.{cut_has, cut_sound}
-use Rattle.cgl_pool.specs.declared.pool.Kept.{Kept}
-use Rattle.cgl_pool.specs.declared.pool.Stamped.{Stamped}
-use Rattle.cgl_pool.specs.InequalityOrder.{ineq_cmp}
-use Rattle.cgl_pool.specs.Listed.{Key, by_inequality, cuts_among, insert_kept, is_least, kept_by, listed}
+use Rattle.cgl_cuts.specs.declared.derive.answer.Answer.{Answer}
+use Rattle.cgl_cuts.specs.declared.derive.answer.Answer.TheVariants.{Nothing, Cut, Wide}
+use Rattle.cgl_cuts.specs.declared.derive.answer.Candidate.{Candidate}
+use Rattle.cgl_cuts.specs.Derives.{AreColumns}
+use Rattle.cgl_cuts.specs.Meaning.{side_at}
+use Rattle.cgl_cuts.specs.RoundMember.{round_member}
+use Rattle.cgl_cuts.proofs.CutProofs.{cut_has, cut_sound}
+use Rattle.cgl_cuts.specs.declared.pool.pool.Kept.{Kept}
+use Rattle.cgl_cuts.specs.declared.pool.pool.Stamped.{Stamped}
+use Rattle.cgl_cuts.specs.InequalityOrder.{ineq_cmp}
+use Rattle.cgl_cuts.specs.Listed.{Key, by_inequality, cuts_among, insert_kept, is_least, kept_by, listed}
 use Rattle.cgl_app.specs.CutAnswers.{IsRightCut}
 use Rattle.cgl_app.specs.CutMeaning.{AreRight, MeetsListed}
 use Rattle.cgl_app.specs.CutOf.{answers, listed_cuts, round_answers_from}

@@ -20,13 +20,13 @@ use Rattle.cgl_model.specs.IntegerForm.{forms_of}
 use Rattle.cgl_model.specs.Point.{Point}
 use Rattle.cgl_model.specs.Rising.{IsRising}
 use Rattle.cgl_model.specs.Valid.{IsColumn, IsValid}
-use Rattle.cgl_derive.specs.declared.answer.Answer.TheVariants.{Nothing, Cut, Wide}
-use Rattle.cgl_derive.specs.declared.answer.Candidate.{Candidate}
-use Rattle.cgl_gen.specs.CutLaws.{IsListable}
-use Rattle.cgl_gen.specs.RoundMember.{divisor_of, round_member, rounded}
-use Rattle.cgl_gen.proofs.CutProofs.{cut_columns, cut_has}
-use Rattle.cgl_gen.proofs.RoundLaws.{quotient_coefficient}
-use Rattle.cgl_pool.specs.declared.pool.Kept.{Kept}
+use Rattle.cgl_cuts.specs.declared.derive.answer.Answer.TheVariants.{Nothing, Cut, Wide}
+use Rattle.cgl_cuts.specs.declared.derive.answer.Candidate.{Candidate}
+use Rattle.cgl_cuts.specs.CutLaws.{IsListable}
+use Rattle.cgl_cuts.specs.RoundMember.{divisor_of, round_member, rounded}
+use Rattle.cgl_cuts.proofs.CutProofs.{cut_columns, cut_has}
+use Rattle.cgl_cuts.proofs.RoundLaws.{quotient_coefficient}
+use Rattle.cgl_cuts.specs.declared.pool.pool.Kept.{Kept}
 use Rattle.cgl_deck.specs.Extended.{AreInRows, AreRising, extended, is_decimal, is_known, is_within_sizes, with_rows}
 use Rattle.cgl_deck.proofs.ExtensionLaws.{extension_keeps_points}
 use Rattle.cgl_app.specs.CutOf.{extension, inequality_of, listed_cuts}

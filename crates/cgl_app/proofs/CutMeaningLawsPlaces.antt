@@ -18,7 +18,7 @@ use Rattle.cgl_model.specs.Inequality.{Term}
 use Rattle.cgl_model.specs.IntegerForm.{bound_of, column_sides, column_sides_from, forms_of, lower_bound_side, lower_side, negated, row_shapes, row_sides, row_sides_from, upper_bound_side, upper_side}
 use Rattle.cgl_model.proofs.SideLaws.{All, joined, weaker}
 use Rattle.cgl_model.specs.FormList.{same_end, same_place}
-use Rattle.cgl_derive.specs.Meaning.{side_at}
+use Rattle.cgl_cuts.specs.Meaning.{side_at}
 
 -- ---- places that differ
 

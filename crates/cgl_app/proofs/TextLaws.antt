@@ -7,14 +7,14 @@ use Rattle.std.specs.declared.alloc.Global.{Global}
 use Rattle.cgl_model.specs.declared.linear.Ineq.{Ineq}
 use Rattle.cgl_model.specs.declared.mip.Model.{Model}
 use Rattle.cgl_model.specs.Point.{Point}
-use Rattle.cgl_derive.specs.declared.step.Derivation.{Derivation}
+use Rattle.cgl_cuts.specs.declared.derive.step.Derivation.{Derivation}
 use Rattle.cgl_deck.specs.CutNames.{cut_names}
 use Rattle.cgl_deck.specs.DeckLength.{most}
 use Rattle.cgl_deck.specs.DeckText.{deck_text}
 use Rattle.cgl_deck.specs.Extended.{extended}
-use Rattle.cgl_pool.specs.declared.pool.Kept.{Kept}
-use Rattle.cgl_pool.specs.Listed.{Key, wides}
-use Rattle.cgl_prooftext.specs.ProofText.{proof_text}
+use Rattle.cgl_cuts.specs.declared.pool.pool.Kept.{Kept}
+use Rattle.cgl_cuts.specs.Listed.{Key, wides}
+use Rattle.cgl_cuts.specs.ProofText.{proof_text}
 use Rattle.cgl_app.specs.declared.refusal.Refusal.{Refusal}
 use Rattle.cgl_app.specs.declared.refusal.Refusal.TheVariants.{TooLarge, Memory}
 use Rattle.cgl_app.specs.CutOf.{answers, extension, inequality_of, is_too_large, is_too_long, listed_cuts, proof_of, proofs_of, report_of}

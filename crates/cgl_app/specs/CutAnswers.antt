@@ -5,8 +5,8 @@ use Rattle.cgl_model.specs.declared.mip.Model.{Model as Mip}
 use Rattle.cgl_model.specs.Feasible.{SamePoints}
 use Rattle.cgl_model.specs.Inequality.{violation}
 use Rattle.cgl_model.specs.Point.{Point as Numbers}
-use Rattle.cgl_derive.specs.Derives.{Derives}
-use Rattle.cgl_pool.specs.declared.pool.Kept.{Kept}
+use Rattle.cgl_cuts.specs.Derives.{Derives}
+use Rattle.cgl_cuts.specs.declared.pool.pool.Kept.{Kept}
 use Rattle.cgl_deck.specs.DeckText.{deck_text}
 use Rattle.cgl_deck.specs.Extended.{is_within_sizes}
 use Rattle.cgl_outside.specs.Shelf.{Held, file_of, with_file, Lacks, Rose}

@@ -5,15 +5,15 @@ use Rattle.cgl_model.specs.declared.mip.Model.{Model}
 use Rattle.cgl_model.specs.declared.places.Side.{Side}
 use Rattle.cgl_model.specs.IntegerForm.{forms_of}
 use Rattle.cgl_model.specs.Point.{Point}
-use Rattle.cgl_derive.specs.declared.step.Derivation.{Derivation}
-use Rattle.cgl_gen.specs.RoundMember.{round_member}
-use Rattle.cgl_pool.specs.declared.pool.Kept.{Kept}
-use Rattle.cgl_pool.specs.declared.pool.Stamped.{Stamped}
-use Rattle.cgl_pool.specs.Listed.{listed, wides}
+use Rattle.cgl_cuts.specs.declared.derive.step.Derivation.{Derivation}
+use Rattle.cgl_cuts.specs.RoundMember.{round_member}
+use Rattle.cgl_cuts.specs.declared.pool.pool.Kept.{Kept}
+use Rattle.cgl_cuts.specs.declared.pool.pool.Stamped.{Stamped}
+use Rattle.cgl_cuts.specs.Listed.{listed, wides}
 use Rattle.cgl_deck.specs.CutNames.{cut_names}
 use Rattle.cgl_deck.specs.DeckText.{deck_text}
 use Rattle.cgl_deck.specs.Extended.{extended}
-use Rattle.cgl_prooftext.specs.ProofText.{proof_text}
+use Rattle.cgl_cuts.specs.ProofText.{proof_text}
 use Rattle.cgl_app.specs.Report.{report_text}
 
 -- what simple rounding, generator 0, says of sides that are numbered from i on

@@ -3,8 +3,8 @@ use Rattle.std.specs.Prelude.{◌≡◌, ◌⊎◌, ℕ, false, Some, List, Vec}
 use Rattle.std.specs.declared.alloc.Global.{Global}
 use Rattle.cgl_model.specs.declared.mip.Model.{Model}
 use Rattle.cgl_model.specs.Point.{Point}
-use Rattle.cgl_derive.specs.declared.step.Derivation.{Derivation}
-use Rattle.cgl_pool.specs.declared.pool.Kept.{Kept}
+use Rattle.cgl_cuts.specs.declared.derive.step.Derivation.{Derivation}
+use Rattle.cgl_cuts.specs.declared.pool.pool.Kept.{Kept}
 use Rattle.cgl_model.specs.declared.linear.Ineq.{Ineq}
 use Rattle.cgl_deck.specs.Extended.{extended}
 use Rattle.cgl_deck.specs.DeckText.{deck_text}

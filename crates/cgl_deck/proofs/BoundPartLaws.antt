@@ -5,7 +5,7 @@ use Rattle.std.proofs.lemmas.Bool.{and_right}
 use Rattle.cgl_num.specs.Decimal.{Decimal, decimal_text}
 use Rattle.cgl_num.specs.NumberText.{Word, limit}
 use Rattle.cgl_num.specs.declared.number_text.Limit.TheVariants.{Finite}
-use Rattle.cgl_text.specs.Text.{is_one_of}
+use Rattle.cgl_num.specs.Text.{is_one_of}
 use Rattle.cgl_model.specs.declared.mip.Column.{Column}
 use Rattle.cgl_mps.specs.declared.record.Section.TheVariants.{Bounds}
 use Rattle.cgl_mps.specs.declared.record.BoundKind.TheVariants.{Lo, Up, Fx}

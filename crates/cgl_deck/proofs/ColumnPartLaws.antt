@@ -6,7 +6,7 @@ use Rattle.std.proofs.lemmas.List.Folds.{list_any-append}
 use Rattle.std.proofs.lemmas.List.Sums.{sum_by-cons}
 use Rattle.cgl_num.specs.Decimal.{Decimal, decimal_text}
 use Rattle.cgl_num.specs.NumberText.{Word, number}
-use Rattle.cgl_text.specs.Text.{is_one_of}
+use Rattle.cgl_num.specs.Text.{is_one_of}
 use Rattle.cgl_model.specs.declared.mip.Row.{Row}
 use Rattle.cgl_model.specs.declared.mip.Column.{Column}
 use Rattle.cgl_model.specs.Valid.{AreDistinct, AreDistinctRows, IsColumn, IsName, IsRowName}

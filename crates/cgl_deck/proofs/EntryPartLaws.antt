@@ -8,7 +8,7 @@ use Rattle.std.proofs.lemmas.List.Elements.{filter-append}
 use Rattle.std.proofs.lemmas.List.Folds.{list_any-append}
 use Rattle.cgl_num.specs.Decimal.{Decimal, decimal_text}
 use Rattle.cgl_num.specs.NumberText.{Word, number}
-use Rattle.cgl_text.specs.Text.{is_one_of}
+use Rattle.cgl_num.specs.Text.{is_one_of}
 use Rattle.cgl_model.specs.declared.mip.Row.{Row}
 use Rattle.cgl_model.specs.Valid.{IsName, IsRowName}
 use Rattle.cgl_mps.specs.declared.record.Section.TheVariants.{Columns}

@@ -7,7 +7,7 @@ use Rattle.std.proofs.lemmas.List.Elements.{filter-append}
 use Rattle.cgl_num.specs.Decimal.{Decimal, IsDecimal, decimal_text, scaled}
 use Rattle.cgl_num.specs.NumberText.{Word, limit, number}
 use Rattle.cgl_num.specs.declared.number_text.Limit.TheVariants.{Finite}
-use Rattle.cgl_text.specs.Text.{is_one_of}
+use Rattle.cgl_num.specs.Text.{is_one_of}
 use Rattle.cgl_model.specs.HasDecimals.{HasDecimals, IsDecimalColumn, IsDecimalRow}
 use Rattle.cgl_model.specs.declared.mip.Column.{Column}
 use Rattle.cgl_model.specs.declared.mip.Model.{Model}

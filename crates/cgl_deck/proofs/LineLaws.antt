@@ -5,7 +5,7 @@ use Rattle.std.specs.List.{AllByRecursion, list_all, onto_first}
 use Rattle.std.proofs.lemmas.Bool.{and_from, and_parts, not-true, not_from_false, or_parts}
 use Rattle.std.proofs.lemmas.List.Folds.{list_all-append}
 use Rattle.cgl_num.specs.NumberText.{Word}
-use Rattle.cgl_text.specs.Text.{begins_blank, fields_of, is_blank, lines_of}
+use Rattle.cgl_num.specs.Text.{begins_blank, fields_of, is_blank, lines_of}
 use Rattle.cgl_model.specs.Valid.{is_name_byte}
 use Rattle.cgl_mps.specs.declared.record.Section.{Section}
 use Rattle.cgl_mps.specs.declared.record.Section.TheVariants.{Start, End}

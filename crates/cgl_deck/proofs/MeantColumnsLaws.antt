@@ -7,7 +7,7 @@ use Rattle.std.proofs.lemmas.List.Elements.{filter-append}
 use Rattle.std.proofs.lemmas.List.Folds.{flat_map-map}
 use Rattle.cgl_num.specs.Decimal.{Decimal, IsDecimal}
 use Rattle.cgl_num.specs.NumberText.{Word}
-use Rattle.cgl_text.specs.Text.{is_one_of}
+use Rattle.cgl_num.specs.Text.{is_one_of}
 use Rattle.cgl_model.specs.HasDecimals.{IsDecimalColumn}
 use Rattle.cgl_model.specs.Valid.{AreDistinct, IsRowName}
 use Rattle.cgl_model.specs.declared.mip.Column.{Column}

@@ -4,7 +4,7 @@ use Rattle.std.specs.List.{AllByRecursion, cons_option}
 use Rattle.std.proofs.lemmas.List.Elements.{filter-append, filter_map-append}
 use Rattle.std.proofs.lemmas.Grind.{flat_map-append}
 use Rattle.cgl_num.specs.NumberText.{Word}
-use Rattle.cgl_text.specs.Text.{is_one_of}
+use Rattle.cgl_num.specs.Text.{is_one_of}
 use Rattle.cgl_model.specs.Valid.{AreDistinct}
 use Rattle.cgl_mps.proofs.DistinctLaws.{flip_differ, not_false, or_false_parts, same_word}
 use Rattle.cgl_mps.proofs.SoundLaws.{all_append}

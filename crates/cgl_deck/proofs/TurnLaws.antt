@@ -4,8 +4,8 @@ use Rattle.std.proofs.Math.Seq.{drop-cons}
 use Rattle.std.proofs.lemmas.List.{drop_all, take_all}
 use Rattle.cgl_num.specs.Decimal.{Decimal, decimal_text}
 use Rattle.cgl_num.specs.NumberText.{Word}
-use Rattle.cgl_text.specs.Growth.{Grown, Grows}
-use Rattle.cgl_text.proofs.GrowthLaws.{grows_nothing, grows_then, grows_as, more_grows}
+use Rattle.cgl_num.specs.Growth.{Grown, Grows}
+use Rattle.cgl_num.proofs.GrowthLaws.{grows_nothing, grows_then, grows_as, more_grows}
 use Rattle.cgl_model.specs.declared.mip.Column.{Column}
 use Rattle.cgl_model.specs.declared.mip.Model.{Model}
 use Rattle.cgl_model.specs.declared.mip.Row.{Row}

@@ -1,12 +1,12 @@
 ghost use Rattle.std.specs.Prelude.{◌≡◌, [], ◌∷◌, ◌++◌, ◌&&◌, codes, false, flat_map, map, not, pos, int_lt, IfOk};
 ghost use Rattle.cgl_num.specs.Decimal.{decimal_text};
-ghost use Rattle.cgl_text.specs.Growth.{Grows};
+ghost use Rattle.cgl_num.specs.Growth.{Grows};
 ghost use Rattle.cgl_deck.specs.DeckText.{both_text, bound_line, bound_text, column_text, columns_text, data_line, deck_text, is_same_decimal, is_zero_decimal, kind_word, lower_text, marker_text, name_text, range_text, rhs_text, row_name, row_text, section_text, sense_text};
 
 use crate::length::{bounds_len, ranges_len, right_sides_len};
 use cgl_model::{Column, Model, Row, RowKind};
+use cgl_num::text::Builder;
 use cgl_num::{Dec, Memory};
-use cgl_text::Builder;
 use std::alloc::Global;
 
 // ---- numbers

@@ -4,9 +4,9 @@ use Rattle.std.proofs.lemmas.List.Elements.{filter-append}
 use Rattle.std.proofs.lemmas.Bool.Decides.{nat_tests}
 use denote.Ref.{Bor}
 use Rattle.cgl_num.specs.NumberText.{Word}
-use Rattle.cgl_text.specs.Text.{is_one_of}
+use Rattle.cgl_num.specs.Text.{is_one_of}
 use Rattle.cgl_mps.specs.Sections.{distinct, pairs_of}
-use Rattle.cgl_text.specs.Seen.{words}
+use Rattle.cgl_num.specs.Seen.{words}
 
 -- pairs
 

@@ -5,7 +5,7 @@ use Rattle.std.proofs.lemmas.Bool.{eqb-true}
 use Rattle.std.proofs.lemmas.Iterator.Adapters.{position_from-zero}
 use Rattle.cgl_num.specs.NumberText.{Word, number}
 use Rattle.cgl_num.specs.Decimal.{Decimal}
-use Rattle.cgl_text.specs.Text.{is_one_of}
+use Rattle.cgl_num.specs.Text.{is_one_of}
 use Rattle.cgl_model.specs.Valid.{AreDistinct, AreDistinctRows}
 use Rattle.cgl_mps.specs.Sections.{Pair}
 use Rattle.cgl_mps.specs.Models.{entry_of}

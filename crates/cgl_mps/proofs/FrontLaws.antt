@@ -2,16 +2,16 @@
 use Rattle.std.proofs.Common.{◌≡◌, refl, sym, ap, ap₂, ◌∙◌, arith, ℕ, ◌+◌, ◌<◌, nat_lt, Bool, true, false, cond, List, [], ◌∷◌, ◌++◌, length, take, Option, Some}
 use Rattle.std.proofs.lemmas.Bool.Decides.{nat_tests}
 use Rattle.std.proofs.lemmas.List.{take_all}
-use Rattle.cgl_text.specs.Text.{lines_of, is_over}
+use Rattle.cgl_num.specs.Text.{lines_of, is_over}
 use Rattle.cgl_mps.specs.declared.record.Section.{Section}
 use Rattle.cgl_mps.specs.declared.record.Section.TheVariants.{Start}
 use Rattle.cgl_mps.specs.Records.{Record, record_of, section_after, is_end, kept}
-use Rattle.cgl_text.specs.Conditions.{first_kind}
+use Rattle.cgl_num.specs.Conditions.{first_kind}
 use Rattle.cgl_mps.specs.Faults.{Limits, conditions, fault_after}
 use Rattle.cgl_mps.specs.Decode.{decode_within, deck_limits}
 use Rattle.cgl_mps.specs.Reading.{turn, read_from}
 use Rattle.cgl_mps.specs.Front.{FrontWithin, FrontDecides}
-use Rattle.cgl_text.proofs.FrontLaws.{SameButLast, lines_of_front, over_front, over_last}
+use Rattle.cgl_num.proofs.FrontLaws.{SameButLast, lines_of_front, over_front, over_last}
 use Rattle.cgl_mps.proofs.ReadingLaws.{reads_alike}
 
 -- the line with the byte past the limit

@@ -2,12 +2,12 @@
 use Rattle.std.proofs.Common.{◌≡◌, refl, sym, ap, ◌∙◌, inl, inr, ◌⊎◌, ℕ, ◌+◌, ◌==◌, Bool, true, false, cond, not, ◌&&◌, List, [], ◌∷◌, ◌++◌, append-nil, Option, Some, None, unwrap_or, slice_get, subst}
 use Rattle.std.proofs.lemmas.Bool.{eqb-true, and_parts}
 use Rattle.std.specs.List.{AllByRecursion, list_all, onto_first}
-use Rattle.cgl_text.specs.Text.{lines_of}
+use Rattle.cgl_num.specs.Text.{lines_of}
 use Rattle.cgl_model.specs.declared.mip.Model.{Model}
 use Rattle.cgl_mps.specs.declared.record.Section.{Section}
 use Rattle.cgl_mps.specs.declared.record.Section.TheVariants.{Start, Name, Sense, Rows, Columns, Rhs, Ranges, Bounds, End, Unsupported, Unknown}
 use Rattle.cgl_mps.specs.Records.{Record, record_of, section_after, is_end, is_kept, kept, place, same_section}
-use Rattle.cgl_text.specs.Conditions.{Condition, first_kind}
+use Rattle.cgl_num.specs.Conditions.{Condition, first_kind}
 use Rattle.cgl_mps.specs.Faults.{Limits, line_conditions, conditions, header_conditions, data_conditions, fault_after}
 use Rattle.cgl_mps.specs.Models.{model_of}
 use Rattle.cgl_mps.specs.Decode.{Outcome, Deck, decode_within}

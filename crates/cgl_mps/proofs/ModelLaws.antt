@@ -4,7 +4,7 @@ use Rattle.std.specs.List.{list_any, before_first, position_or_len}
 use Rattle.std.proofs.lemmas.List.{map-append}
 use Rattle.std.proofs.lemmas.List.Elements.{filter-append, filter_map-append}
 use Rattle.cgl_num.specs.NumberText.{Word, number}
-use Rattle.cgl_text.specs.Text.{is_one_of}
+use Rattle.cgl_num.specs.Text.{is_one_of}
 use Rattle.cgl_mps.specs.declared.record.Section.TheVariants.{Columns, Rows}
 use Rattle.cgl_mps.specs.Records.{Record, field, same_section, data_in}
 use Rattle.cgl_mps.specs.Sections.{Pair, is_marker, names_column, column_records, column_names, distinct, row_in, rows, row_names}

@@ -4,7 +4,7 @@ use Rattle.std.specs.List.{list_any, flat_map}
 use Rattle.std.proofs.lemmas.List.Folds.{list_any-append}
 use Rattle.std.specs.Cmp.Lexicographic.{same_text}
 use Rattle.cgl_num.specs.NumberText.{Word}
-use Rattle.cgl_text.specs.Text.{is_one_of}
+use Rattle.cgl_num.specs.Text.{is_one_of}
 use Rattle.cgl_mps.specs.declared.record.Section.TheVariants.{Columns}
 use Rattle.cgl_mps.specs.Records.{Record, field, data_in}
 use Rattle.cgl_mps.specs.Sections.{distinct, is_marker, names_column, column_records, column_names}

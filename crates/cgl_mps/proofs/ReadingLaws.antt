@@ -3,8 +3,8 @@ use Rattle.std.proofs.Common.{◌≡◌, refl, sym, ap, ap₂, ◌∙◌, arith,
 use Rattle.std.specs.List.{list_any, cons_option}
 use Rattle.std.proofs.lemmas.List.Elements.{filter-append}
 use Rattle.std.proofs.lemmas.List.Folds.{list_any-append}
-use Rattle.cgl_text.specs.Text.{lines_of}
-use Rattle.cgl_text.proofs.RecordLaws.{AllBelow, before-all, below-push, first-found, not_below}
+use Rattle.cgl_num.specs.Text.{lines_of}
+use Rattle.cgl_num.proofs.RecordLaws.{AllBelow, before-all, below-push, first-found, not_below}
 use Rattle.cgl_mps.specs.declared.record.Section.{Section}
 use Rattle.cgl_mps.specs.declared.record.Section.TheVariants.{Start}
 use Rattle.cgl_mps.specs.Records.{Record, record_of, records_from, records, section_after, before, is_end, up_to_end, kept, is_kept}

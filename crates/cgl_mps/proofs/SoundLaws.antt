@@ -8,7 +8,7 @@ use Rattle.std.proofs.lemmas.List.{map-append}
 use Rattle.std.proofs.lemmas.List.Folds.{list_any-append}
 use Rattle.std.proofs.lemmas.List.Elements.{filter-append, filter_map-append}
 use Rattle.cgl_num.specs.NumberText.{Word, number}
-use Rattle.cgl_text.specs.Text.{is_blank, is_one_of, begins_blank, fields_of, kept_fields}
+use Rattle.cgl_num.specs.Text.{is_blank, is_one_of, begins_blank, fields_of, kept_fields}
 use Rattle.cgl_model.specs.declared.mip.RowKind.{RowKind}
 use Rattle.cgl_model.specs.Valid.{AreDistinct, IsName, IsModelName, IsRowName, is_name_byte}
 use Rattle.cgl_mps.specs.declared.record.Section.TheVariants.{Name, Rows, Columns}

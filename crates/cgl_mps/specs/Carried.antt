@@ -2,7 +2,7 @@
 use Rattle.std.specs.Prelude.{◌≡◌, ℕ, ◌+◌, Bool, false, not, ◌&&◌, ◌||◌, ◌⊎◌, if◌then◌else◌, List, [], ◌∷◌, ◌++◌, codes, bytes_eq, length, map, filter, filter_map, flat_map, Option, Some, None, unwrap_or, option_map}
 use Rattle.std.specs.List.{list_any, after_first, before_first, cons_option}
 use Rattle.cgl_num.specs.NumberText.{Word}
-use Rattle.cgl_text.specs.Text.{is_one_of}
+use Rattle.cgl_num.specs.Text.{is_one_of}
 use Rattle.cgl_model.specs.declared.mip.Column.{Column}
 use Rattle.cgl_mps.specs.declared.record.Section.{Section}
 use Rattle.cgl_mps.specs.declared.record.Section.TheVariants.{Rows, Columns, Rhs, Ranges, Bounds}

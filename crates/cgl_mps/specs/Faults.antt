@@ -2,8 +2,8 @@
 use Rattle.std.specs.Prelude.{ℕ, ◌==◌, nat_lt, nat_le, Bool, true, false, ◌&&◌, ◌||◌, not, if◌then◌else◌, List, [], ◌∷◌, ◌++◌, codes, bytes_eq, length, filter, filter_map, flat_map, Option, Some, None, unwrap_or, option_map, is_none}
 use Rattle.std.specs.List.{list_any, after_first}
 use Rattle.cgl_num.specs.NumberText.{Word}
-use Rattle.cgl_text.specs.Text.{is_one_of, is_over}
-pub use Rattle.cgl_text.specs.Conditions.{Condition, first_kind}
+use Rattle.cgl_num.specs.Text.{is_one_of, is_over}
+pub use Rattle.cgl_num.specs.Conditions.{Condition, first_kind}
 use Rattle.cgl_num.specs.NumberText.{is_number, number, limit}
 use Rattle.cgl_num.specs.declared.number_text.Limit.{Limit}
 use Rattle.cgl_num.specs.declared.number_text.Limit.TheVariants.{Finite, Plus, Minus}

@@ -2,7 +2,7 @@
 use Rattle.std.specs.Prelude.{ℕ, pos, int_lt, Bool, true, false, ◌&&◌, ◌||◌, if◌then◌else◌, List, [], ◌∷◌, codes, bytes_eq, map, find, filter, filter_map, flat_map, position, Option, Some, None, unwrap_or, option_map, option_and_then, slice_get}
 use Rattle.std.specs.List.{list_any, before_first}
 use Rattle.cgl_num.specs.NumberText.{Word}
-use Rattle.cgl_text.specs.Text.{is_one_of}
+use Rattle.cgl_num.specs.Text.{is_one_of}
 use Rattle.cgl_num.specs.Decimal.{Decimal}
 use Rattle.cgl_num.specs.NumberText.{whole, number, limit, finite}
 use Rattle.cgl_model.specs.declared.mip.Row.{Row}

@@ -1,6 +1,6 @@
 -- The outcome again, line by line: all that a reader carries is the records so far.
 use Rattle.std.specs.Prelude.{◌≡◌, ℕ, ◌+◌, Bool, true, false, ◌&&◌, if◌then◌else◌, List, [], ◌∷◌, ◌++◌, Option, Some, None, unwrap_or, filter_map}
-use Rattle.cgl_text.specs.Text.{lines_of}
+use Rattle.cgl_num.specs.Text.{lines_of}
 use Rattle.cgl_mps.specs.declared.record.Section.{Section}
 use Rattle.cgl_mps.specs.declared.record.Section.TheVariants.{Start}
 use Rattle.cgl_mps.specs.Records.{Record, record_of, section_after, is_end, kept}

@@ -4,8 +4,8 @@ use Rattle.std.specs.List.{list_any}
 use Rattle.cgl_mps.specs.declared.record.Section.{Section}
 use Rattle.cgl_mps.specs.declared.record.Section.TheVariants.{Start, Name, Sense, Rows, Columns, Rhs, Ranges, Bounds, End, Unsupported, Unknown}
 use Rattle.cgl_num.specs.NumberText.{Word}
-use Rattle.cgl_text.specs.Text.{begins_blank, lines_of, is_one_of}
-pub use Rattle.cgl_text.specs.Text.{kept_fields, no_field}
+use Rattle.cgl_num.specs.Text.{begins_blank, lines_of, is_one_of}
+pub use Rattle.cgl_num.specs.Text.{kept_fields, no_field}
 
 abbrev pub place : Section → ℕ
 place Start = 0

@@ -2,7 +2,7 @@
 use Rattle.std.specs.Prelude.{ℕ, List, [], bytes_eq, find, Option, option_map, unwrap_or, slice_get}
 use denote.Ref.{Bor}
 use Rattle.cgl_num.specs.NumberText.{Word}
-use Rattle.cgl_text.specs.Seen.{words}
+use Rattle.cgl_num.specs.Seen.{words}
 use Rattle.cgl_mps.specs.declared.record.BoundKind.{BoundKind}
 use Rattle.cgl_mps.specs.Sections.{bound_kinds}
 

@@ -1,11 +1,11 @@
 //! Bounds as a line of BOUNDS says them.
 
 ghost use Rattle.std.specs.Prelude.{◌≡◌, ◌∷◌, ◌++◌, [], IfOk, OnOk, bytes_eq, filter, if◌then◌else◌, option_map};
-ghost use Rattle.cgl_text.specs.Seen.{word};
+ghost use Rattle.cgl_num.specs.Seen.{word};
 
 use crate::record::BoundKind;
 use cgl_num::Memory;
-use cgl_text::same_bytes;
+use cgl_num::text::same_bytes;
 use std::alloc::Global;
 use std::marker::Model;
 
@@ -20,7 +20,7 @@ pub struct Bound<'a> {
 
 impl<'a> Model for Bound<'a> {
     ghost use Rattle.std.specs.Prelude.{option_map};
-    ghost use Rattle.cgl_text.specs.Seen.{word};
+    ghost use Rattle.cgl_num.specs.Seen.{word};
     ghost use Rattle.cgl_mps.specs.Sections.{Bound as Said};
 
     ghost Value = { Said };

@@ -2,7 +2,7 @@
 
 ghost use Rattle.std.specs.Prelude.{◌≡◌, ◌∷◌, ◌++◌, [], OnOk, false};
 ghost use Rattle.cgl_mps.specs.declared.record.Section.TheVariants.{Columns, Bounds};
-ghost use Rattle.cgl_text.specs.Seen.{words};
+ghost use Rattle.cgl_num.specs.Seen.{words};
 ghost use Rattle.cgl_mps.specs.Records.{data_in};
 ghost use Rattle.cgl_mps.specs.Sections.{row_names};
 ghost use Rattle.cgl_mps.specs.Found.{is_data_of};
@@ -13,7 +13,7 @@ use crate::record::{Record, Section};
 use crate::sections::row_in;
 use crate::sets::{ReadBounds, ReadPairs};
 use cgl_num::Memory;
-use cgl_text::Names;
+use cgl_num::text::Names;
 use std::alloc::Global;
 use std::marker::Model;
 

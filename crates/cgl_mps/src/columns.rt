@@ -1,8 +1,8 @@
 //! The columns of the lines so far.
 
 ghost use Rattle.std.specs.Prelude.{◌≡◌, OnOk, length, option_map};
-ghost use Rattle.cgl_text.specs.Text.{is_one_of};
-ghost use Rattle.cgl_text.specs.Seen.{words};
+ghost use Rattle.cgl_num.specs.Text.{is_one_of};
+ghost use Rattle.cgl_num.specs.Seen.{words};
 ghost use Rattle.cgl_mps.specs.Sections.{pairs_of};
 ghost use Rattle.cgl_mps.specs.Faults.{names_row};
 ghost use Rattle.cgl_mps.specs.Carried.{after_line, after_marker, after_more, all_of, begun, is_current, no_columns, own_pairs, with_pairs};
@@ -12,7 +12,7 @@ use crate::pairs::Pairs;
 use crate::record::{Record, field};
 use crate::sections::{entry_fields, is_marker};
 use cgl_num::Memory;
-use cgl_text::{Names, same_bytes};
+use cgl_num::text::{Names, same_bytes};
 use std::alloc::Global;
 use std::marker::Model;
 

@@ -3,7 +3,7 @@
 ghost use Rattle.std.specs.Prelude.{◌≡◌, ◌++◌, ◌<◌, ◌^◌, flat_map, length, nat_le};
 ghost use Rattle.cgl_mps.specs.Sections.{column_names, column_records, entry_pairs, pairs_of, row_names};
 ghost use Rattle.cgl_mps.specs.Decode.{deck_limits};
-ghost use Rattle.cgl_text.specs.Seen.{words};
+ghost use Rattle.cgl_num.specs.Seen.{words};
 
 use crate::carried::Carried;
 

@@ -1,7 +1,7 @@
 ghost use Rattle.std.specs.Prelude.{◌≡◌, ◌⊎◌, ◌∷◌, ◌++◌, [], ℕ, ◌+◌, ◌≤◌, ◌^◌, ◌&&◌, None, Some, false, length, IfErr, IfOk, OnOk};
 ghost use Rattle.cgl_model.specs.Valid.{IsValid};
-ghost use Rattle.cgl_text.specs.Seen.{words};
-ghost use Rattle.cgl_text.specs.Text.{lines_of};
+ghost use Rattle.cgl_num.specs.Seen.{words};
+ghost use Rattle.cgl_num.specs.Text.{lines_of};
 ghost use Rattle.cgl_mps.specs.Records.{is_kept, kept, record_of, section_after};
 ghost use Rattle.cgl_mps.specs.Faults.{fault_after};
 ghost use Rattle.cgl_mps.specs.Models.{model_of};
@@ -15,7 +15,7 @@ use crate::record::{Record, Section};
 use crate::records::{is_kept, record_of};
 use cgl_model::Model;
 use cgl_num::Memory;
-use cgl_text::Lines;
+use cgl_num::text::Lines;
 use std::alloc::Global;
 use thiserror::Error;
 

@@ -2,10 +2,10 @@
 
 ghost use Rattle.std.specs.Prelude.{◌≡◌, IfOk, [], ◌∷◌, codes, false, filter_map, option_map, unwrap_or};
 ghost use Rattle.std.specs.List.{list_any};
-ghost use Rattle.cgl_text.specs.Text.{is_one_of};
+ghost use Rattle.cgl_num.specs.Text.{is_one_of};
 ghost use Rattle.cgl_mps.specs.Sections.{sense_in, senses};
 ghost use Rattle.cgl_mps.specs.Models.{last_or, name_in, model_of};
-ghost use Rattle.cgl_text.specs.Seen.{word};
+ghost use Rattle.cgl_num.specs.Seen.{word};
 
 use crate::carried::Carried;
 use crate::models_columns::columns_of;
@@ -14,7 +14,7 @@ use crate::record::{Record, Section};
 use crate::sections::sense_in;
 use cgl_model::{Model, Name, Seq};
 use cgl_num::Memory;
-use cgl_text::same_bytes;
+use cgl_num::text::same_bytes;
 use std::alloc::Global;
 
 /// A copy of the bytes.

@@ -14,8 +14,8 @@ use crate::models_bounds::{bounds_of, lower_of, makes_integer, upper_of};
 use crate::numbers::number;
 use crate::pairs::Pair;
 use cgl_model::{Column, Entries, Name, Seq};
+use cgl_num::text::Names;
 use cgl_num::{Dec, Memory};
-use cgl_text::Names;
 use std::alloc::Global;
 
 fn entry_of(names: &Names, row: &[u8], value: &[u8]) -> Result<Option<(u32, Dec)>, Memory>

@@ -1,7 +1,7 @@
 //! Rows, columns and pairs among the records.
 
 ghost use Rattle.std.specs.Prelude.{◌≡◌, false, not};
-ghost use Rattle.cgl_text.specs.Text.{is_one_of};
+ghost use Rattle.cgl_num.specs.Text.{is_one_of};
 ghost use Rattle.cgl_mps.specs.declared.record.Section.TheVariants.{Bounds};
 ghost use Rattle.cgl_mps.specs.Sections.{column_names, counting_pairs, counts_after, row_names};
 ghost use Rattle.cgl_mps.specs.Faults.{is_new_column, is_split, names_row, pairs_of_column};

@@ -3,11 +3,11 @@
 ghost use Rattle.std.specs.Prelude.{◌≡◌, ◌++◌, [], OnOk, option_map};
 ghost use Rattle.cgl_mps.specs.Sections.{pairs_of};
 ghost use Rattle.cgl_mps.specs.Faults.{names_row};
-ghost use Rattle.cgl_text.specs.Seen.{word, words};
+ghost use Rattle.cgl_num.specs.Seen.{word, words};
 ghost use Rattle.cgl_mps.specs.Models.{value_for};
 
 use cgl_num::Memory;
-use cgl_text::same_bytes;
+use cgl_num::text::same_bytes;
 use std::alloc::Global;
 use std::marker::Model;
 

@@ -10,8 +10,8 @@ ghost use Rattle.cgl_outside.specs.Means.{Means, MeansFault};
 
 use crate::deck::{DeckError, deck_of};
 use cgl_model::Model;
+use cgl_num::text::MOST_BYTES;
 use cgl_outside::{FetchError, ReadError, Shelf, read_front};
-use cgl_text::MOST_BYTES;
 use std::alloc::Global;
 
 /// The model that the deck of these bytes means.

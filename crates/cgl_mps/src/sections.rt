@@ -2,17 +2,17 @@
 
 ghost use Rattle.std.specs.Prelude.{◌≡◌, ◌≤◌, ◌∷◌, ◌&&◌, [], Some, if◌then◌else◌, length, map, not, option_map};
 ghost use Rattle.std.specs.List.{list_any};
-ghost use Rattle.cgl_text.specs.Text.{is_one_of};
+ghost use Rattle.cgl_num.specs.Text.{is_one_of};
 ghost use Rattle.cgl_mps.specs.Records.{same_section, has_header, data_in};
 ghost use Rattle.cgl_mps.specs.Sections.{sense_names, sense_in, row_kind, row_in, marker, is_marker, names_column, pairs_of, rest, entry_pairs, set_pairs, bound_kinds, needs_value, bound_with, bound_in, set_in, same_set, first_or, counts_after};
 ghost use Rattle.cgl_mps.specs.Faults.{names_row};
-ghost use Rattle.cgl_text.specs.Seen.{word, words};
+ghost use Rattle.cgl_num.specs.Seen.{word, words};
 ghost use Rattle.cgl_mps.specs.Seen.{word_at, bound_kind};
 
 use crate::bound::Bound;
 use crate::record::{BoundKind, Record, Section, field};
 use cgl_model::RowKind;
-use cgl_text::same_bytes;
+use cgl_num::text::same_bytes;
 
 /// Whether the record is a data line of the section.
 pub(crate) fn is_data_in(section: Section, r: &Record) -> bool

@@ -5,7 +5,7 @@ ghost use Rattle.std.specs.List.{cons_option};
 ghost use Rattle.cgl_mps.specs.declared.record.Section.TheVariants.{Bounds as BoundLines};
 ghost use Rattle.cgl_mps.specs.Sections.{bound_in, same_set, set_in};
 ghost use Rattle.cgl_mps.specs.Faults.{names_row};
-ghost use Rattle.cgl_text.specs.Seen.{word};
+ghost use Rattle.cgl_num.specs.Seen.{word};
 ghost use Rattle.cgl_mps.specs.Carried.{after_bound, after_pairs, counting_set};
 
 use crate::bound::Bounds;
@@ -48,7 +48,7 @@ pub(crate) struct ReadPairs<'a> {
 
 impl<'a> Model for ReadPairs<'a> {
     ghost use Rattle.std.specs.Prelude.{option_map};
-    ghost use Rattle.cgl_text.specs.Seen.{word};
+    ghost use Rattle.cgl_num.specs.Seen.{word};
     ghost use Rattle.cgl_mps.specs.Carried.{ReadPairs as Said};
 
     ghost Value = { Said };
@@ -121,7 +121,7 @@ pub(crate) struct ReadBounds<'a> {
 
 impl<'a> Model for ReadBounds<'a> {
     ghost use Rattle.std.specs.Prelude.{option_map};
-    ghost use Rattle.cgl_text.specs.Seen.{word};
+    ghost use Rattle.cgl_num.specs.Seen.{word};
     ghost use Rattle.cgl_mps.specs.Carried.{ReadBounds as Said};
 
     ghost Value = { Said };

@@ -5,3 +5,7 @@ pub mod FractionOrder
 pub mod Decimal
 pub mod NumberText
 pub mod IntegerLaws
+pub mod Text
+pub mod Seen
+pub mod Conditions
+pub mod Growth

@@ -137,13 +137,13 @@ fn quotient(a: i128, g: i128) -> i128
 }
 
 /// What no numerator and no denominator reaches in magnitude.
-const END: u128 = 1 << 127;
+const MAGNITUDE_END: u128 = 1 << 127;
 
 /// The number, where its magnitude is below 2^127.
 fn narrow(number: i128) -> Option<i128>
     ensures { MatchOption result (IsWide number) (λ z. (z ≡ number) × (unsigned_abs z < 2 ^ 127)) }
 {
-    if number.unsigned_abs() < END {
+    if number.unsigned_abs() < MAGNITUDE_END {
         Some(number)
     } else {
         None

@@ -3,9 +3,9 @@ use Rattle.std.proofs.Common.{◌≡◌, refl, sym, ap, ◌∙◌, arith, ℕ, �
 use Rattle.std.proofs.lemmas.List.{take_all}
 use Rattle.std.proofs.lemmas.Bool.Decides.{nat_tests}
 use Rattle.cgl_outside.specs.Shelf.{Held, file_of}
-use Rattle.cgl_text.specs.Text.{lines_of, is_over, most_bytes}
+use Rattle.cgl_num.specs.Text.{lines_of, is_over, most_bytes}
 use Rattle.cgl_model.specs.declared.mip.Model.{Model}
-use Rattle.cgl_text.specs.Conditions.{first_kind}
+use Rattle.cgl_num.specs.Conditions.{first_kind}
 use Rattle.cgl_where.specs.PointFile.{Record, record_of, kept, is_kept, value_conditions, fault_after, point_within, point_of, Outcome, Fault, Values}
 use Rattle.cgl_where.specs.declared.point.PointError.{PointError}
 use Rattle.cgl_where.specs.declared.point.PointError.TheVariants.{Fault as BadLine, Memory}
@@ -19,7 +19,7 @@ use Rattle.cgl_outside.specs.declared.errors.FetchError.{FetchError}
 use Rattle.cgl_outside.specs.declared.errors.FetchError.TheVariants.{ReadFault as Unread, Memory as OutOfMemory}
 use Rattle.cgl_outside.specs.Means.{Means, MeansFault}
 use Rattle.cgl_where.proofs.ReadingLaws.{reads_alike}
-use Rattle.cgl_text.proofs.FrontLaws.{SameButLast, lines_of_front, over_front, over_last}
+use Rattle.cgl_num.proofs.FrontLaws.{SameButLast, lines_of_front, over_front, over_last}
 
 -- ---- the line that is over
 

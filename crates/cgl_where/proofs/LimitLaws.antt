@@ -8,7 +8,7 @@ use Rattle.std.proofs.lemmas.Nat.Gcd.{dvd_trans}
 use Rattle.std.proofs.Math.Nat.{div-mul_cancel, one-dvd}
 use Rattle.std.proofs.Math.IntN.{neg_ℤ}
 use Rattle.cgl_num.specs.Fraction.{Fraction}
-use Rattle.cgl_text.specs.Text.{lines_of, most_bytes}
+use Rattle.cgl_num.specs.Text.{lines_of, most_bytes}
 use Rattle.cgl_model.specs.declared.mip.Model.{Model}
 use Rattle.cgl_model.specs.Point.{Point}
 use Rattle.cgl_where.specs.PointFile.{Record, record_of, kept, values, value_at, column_names, common_denominator, numerator_over, is_too_fine, fault_after, point_from, point_of, Outcome, Values}

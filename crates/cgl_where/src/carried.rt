@@ -3,7 +3,7 @@
 ghost use Rattle.std.specs.Prelude.{◌≡◌, ◌<◌, ◌∷◌, ◌++◌, [], length, map, slice_set, IfOk, OnOk, None, Some, is_some, false};
 ghost use Rattle.cgl_where.specs.Carried.{Carries, FollowsLine, IsSound, TakesIn, carried_conditions, carried_value, named_at};
 ghost use Rattle.cgl_where.specs.Limits.{ArePositive};
-ghost use Rattle.cgl_text.specs.Conditions.{first_kind};
+ghost use Rattle.cgl_num.specs.Conditions.{first_kind};
 ghost use Rattle.cgl_where.specs.PointFile.{is_too_fine, point_in, record_of};
 
 use crate::columns::Columns;

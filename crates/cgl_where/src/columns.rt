@@ -6,7 +6,7 @@ ghost use Rattle.cgl_where.specs.Carried.{column_number};
 
 use cgl_model::{Column, Model};
 use cgl_num::Memory;
-use cgl_text::Names;
+use cgl_num::text::Names;
 use std::alloc::Global;
 
 fn push_names<'a>(names: &mut Names<'a>, columns: &'a [Column]) -> Result<(), Memory>

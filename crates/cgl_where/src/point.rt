@@ -1,12 +1,12 @@
 ghost use Rattle.std.specs.Prelude.{◌≡◌, ◌⊎◌, ℕ, ◌+◌, ◌≤◌, ◌^◌, [], length, IfOk, IfErr};
-ghost use Rattle.cgl_text.specs.Text.{lines_of};
+ghost use Rattle.cgl_num.specs.Text.{lines_of};
 ghost use Rattle.cgl_where.specs.Carried.{Carries};
 ghost use Rattle.cgl_where.specs.PointFile.{point_of, Values, Fault};
 
 use crate::carried::Carried;
 use crate::columns::Columns;
 use cgl_model::{Model, Point};
-use cgl_text::{Lines, is_over};
+use cgl_num::text::{Lines, is_over};
 use std::alloc::Global;
 use thiserror::Error;
 

@@ -8,8 +8,8 @@ ghost use Rattle.cgl_outside.specs.Means.{Means, MeansFault};
 
 use crate::{PointError, point_of};
 use cgl_model::{Model, Point};
+use cgl_num::text::MOST_BYTES;
 use cgl_outside::{FetchError, ReadError, Shelf, read_front};
-use cgl_text::MOST_BYTES;
 use std::alloc::Global;
 
 /// The point that a file means for the model, with the error of a reading.

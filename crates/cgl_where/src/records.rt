@@ -5,7 +5,7 @@ ghost use Rattle.cgl_where.specs.PointFile.{is_kept, record_of};
 
 use crate::record::Record;
 use cgl_num::Memory;
-use cgl_text::kept_fields;
+use cgl_num::text::kept_fields;
 use std::alloc::Global;
 
 /// The record of line n.

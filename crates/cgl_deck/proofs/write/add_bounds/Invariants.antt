@@ -1,5 +1,5 @@
 use Rattle.std.proofs.Common.{flat_map, take}
-use Rattle.cgl_text.specs.Growth.{Grows}
+use Rattle.cgl_num.specs.Growth.{Grows}
 use Rattle.cgl_deck.specs.DeckText.{bound_text}
 use Rattle.cgl_deck.proofs.write.add_bounds.Given as goal
 

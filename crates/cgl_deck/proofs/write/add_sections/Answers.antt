@@ -1,4 +1,4 @@
-use Rattle.cgl_text.proofs.GrowthLaws.{grows_then}
+use Rattle.cgl_num.proofs.GrowthLaws.{grows_then}
 use Rattle.cgl_deck.proofs.write.add_sections.Goals as goal
 
 pub returns : goal.returns

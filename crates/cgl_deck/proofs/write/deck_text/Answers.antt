@@ -9,4 +9,4 @@ returns c =
     let matrix = rw (c.as_slice-rows.ensures, c.as_slice-columns.ensures) at c.add_matrix.ensures in
     let sections = rw (c.as_slice-rows.ensures, c.as_slice-columns.ensures) at c.add_sections.ensures in
     let grown = deck_grows c.args.model.now _ _ _ _ _ c.add_head.ensures matrix sections c.append.ensures in
-    IfOk-weaker c.finish.result _ _ (λ bytes e. e.1 ∙ (grown.whole e.0).1 ∙ ap (λ z. z ++ deck_text c.args.model.now) c.new-text.ensures) c.finish.ensures
+    IfOk-weaker c.finish.result _ _ (λ bytes e. e.1 ∙ (grown.whole e.0).1 ∙ ap (λ z. z ++ deck_text c.args.model.now) c.new-text.ensures.empty) c.finish.ensures.text

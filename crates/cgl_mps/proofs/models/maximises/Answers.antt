@@ -1,5 +1,5 @@
 use Rattle.std.proofs.Common.{sym, ◌∙◌, [], ◌∷◌, codes}
-use Rattle.cgl_text.specs.Text.{is_one_of}
+use Rattle.cgl_num.specs.Text.{is_one_of}
 use Rattle.cgl_mps.specs.Sections.{sense_in}
 use Rattle.cgl_mps.proofs.TurnLaws.{any_turn, none_passed}
 use Rattle.cgl_mps.proofs.models.maximises.Goals as goal

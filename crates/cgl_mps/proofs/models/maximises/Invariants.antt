@@ -1,6 +1,6 @@
 use Rattle.std.proofs.Common.{◌≡◌, [], ◌∷◌, codes, drop}
 use Rattle.std.specs.List.{list_any}
-use Rattle.cgl_text.specs.Text.{is_one_of}
+use Rattle.cgl_num.specs.Text.{is_one_of}
 use Rattle.cgl_mps.specs.Sections.{senses}
 use Rattle.cgl_mps.proofs.models.maximises.Given as goal
 

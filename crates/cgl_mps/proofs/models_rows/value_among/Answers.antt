@@ -1,6 +1,6 @@
 use Rattle.std.proofs.Common.{ap, sym, ◌∙◌, option_and_then, option_map}
 use Rattle.cgl_num.specs.NumberText.{number}
-use Rattle.cgl_text.specs.Seen.{word}
+use Rattle.cgl_num.specs.Seen.{word}
 use Rattle.cgl_mps.proofs.ModelLaws.{value_read}
 use Rattle.cgl_mps.proofs.models_rows.value_among.Goals as goal
 

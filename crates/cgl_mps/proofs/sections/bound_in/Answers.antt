@@ -1,5 +1,5 @@
 use Rattle.std.proofs.Common.{ap, sym, ◌∙◌}
-use Rattle.cgl_text.specs.Seen.{words}
+use Rattle.cgl_num.specs.Seen.{words}
 use Rattle.cgl_mps.specs.Sections.{bound_with, needs_value}
 use Rattle.cgl_mps.specs.Seen.{bound_kind}
 use Rattle.cgl_mps.proofs.WordLaws.{bound_read}

@@ -1,5 +1,5 @@
 use Rattle.std.proofs.Common.{◌≡◌, ◌≤◌, ◌<◌, ◌∙◌, sym, arith, ℕ, Option, None}
-use Rattle.cgl_text.specs.Conditions.{first_kind}
+use Rattle.cgl_num.specs.Conditions.{first_kind}
 use Rattle.cgl_where.specs.Carried.{FollowsLine, TakesIn, carried_conditions}
 use Rattle.cgl_where.proofs.CarriedLaws.{follows_over, follows_long, follows_blank, follows_value, if_ok_both}
 use Rattle.cgl_where.proofs.carried.Carried.take_record.Goals as goal

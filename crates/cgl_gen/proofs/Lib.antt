@@ -1,2 +1,0 @@
-pub mod RoundLaws
-pub mod CutProofs

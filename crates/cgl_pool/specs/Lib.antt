@@ -1,3 +1,0 @@
-pub mod InequalityOrder
-pub mod Listed
-pub mod Offered

@@ -1,2 +1,0 @@
-mod KnownText
-mod ProofTextLaws

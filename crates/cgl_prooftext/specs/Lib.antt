@@ -1,2 +1,0 @@
-pub mod ProofText
-pub mod KnownProof

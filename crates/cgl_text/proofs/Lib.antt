@@ -1,5 +1,0 @@
-pub mod TextLaws
-pub mod NameLaws
-pub mod FrontLaws
-pub mod RecordLaws
-pub mod GrowthLaws

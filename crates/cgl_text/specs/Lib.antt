@@ -1,4 +1,0 @@
-pub mod Text
-pub mod Seen
-pub mod Conditions
-pub mod Growth
