@@ -3,10 +3,10 @@ ghost use Rattle.cgl_model.specs.Inequality.{AreColumnsBelow, violation};
 ghost use Rattle.cgl_cuts.specs.declared.derive.answer.Answer.TheVariants.{Cut};
 ghost use Rattle.cgl_cuts.specs.RoundMember.{answer_with, is_violated, is_wide_at, is_wide_cut, round_from, round_member};
 
+use crate::derive::{Answer, Candidate};
 use crate::generators::column::are_integer;
 use crate::generators::cut::{copied, is_wide};
 use crate::generators::rounding::{divides, divisor_of, rounded, rounding};
-use cgl_cuts::derive::{Answer, Candidate};
 use cgl_model::{Ineq, Model, Place, Point, Side, Wide};
 use cgl_num::{Frac, Memory};
 use std::alloc::Global;

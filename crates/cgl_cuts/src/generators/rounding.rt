@@ -1,7 +1,7 @@
 ghost use Rattle.std.specs.Prelude.{◌≡◌, pos, ◌<ℤ◌, unsigned_abs, IfOk};
 ghost use Rattle.cgl_cuts.specs.RoundMember.{ceiling, divides, divisor_of, rounded, round_from};
 
-use cgl_cuts::derive::{Derivation, Ref, Round, Step};
+use crate::derive::{Derivation, Ref, Round, Step};
 use cgl_model::{Ineq, Place, Terms};
 use cgl_num::{Memory, gcd};
 use sqlite_items::Items;

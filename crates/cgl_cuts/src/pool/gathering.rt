@@ -2,10 +2,10 @@ ghost use Rattle.std.specs.Prelude.{◌≡◌, IfOk, OnOk};
 ghost use Rattle.cgl_cuts.specs.Listed.{HaveDistinctKeys, kept_by, listed, wide_by, wides};
 ghost use Rattle.cgl_cuts.specs.Offered.{with_cut, with_key};
 
+use crate::derive::Answer;
 use crate::pool::keys::offer_key;
 use crate::pool::offer::offer;
 use crate::pool::{Gathered, Kept, Stamped};
-use cgl_cuts::derive::Answer;
 use cgl_model::Seq;
 use cgl_num::Memory;
 use std::alloc::Global;

@@ -1,4 +1,4 @@
-use cgl_cuts::derive::{Answer, Candidate};
+use crate::derive::{Answer, Candidate};
 use cgl_model::Seq;
 
 /// An answer with its key: the generator's number and the item's.

@@ -2,9 +2,9 @@ ghost use Rattle.std.specs.Prelude.{◌≡◌, flat_map, IfOk};
 ghost use Rattle.cgl_num.specs.Growth.{Grows};
 ghost use Rattle.cgl_cuts.specs.ProofText.{cut_text, lin_text, proof_text, round_text, split_line, split_text, step_text};
 
+use crate::derive::{Derivation, Lin, Round, Split, Step};
 use crate::prooftext::field::{append_count, append_ineq, append_number, append_terms};
 use crate::prooftext::reference::{append_ref, append_refs};
-use cgl_cuts::derive::{Derivation, Lin, Round, Split, Step};
 use cgl_model::Ineq;
 use cgl_num::Memory;
 use cgl_num::text::Builder;

@@ -2,8 +2,8 @@ ghost use Rattle.std.specs.Prelude.{◌≡◌, [], ◌∷◌};
 ghost use Rattle.cgl_num.specs.Growth.{Grows};
 ghost use Rattle.cgl_cuts.specs.ProofText.{end_text, fields_text, numbered, ref_text, refs_fields};
 
+use crate::derive::Ref;
 use crate::prooftext::field::{append_count, append_number};
-use cgl_cuts::derive::Ref;
 use cgl_model::{End, Place};
 use cgl_num::text::Builder;
 use itoa::Buffer;

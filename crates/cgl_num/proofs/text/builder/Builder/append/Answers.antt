@@ -1,5 +1,4 @@
-use Rattle.std.proofs.Common.{absurd, true≢false}
-use Rattle.cgl_num.specs.Growth.{Grows}
+use Rattle.std.proofs.Common.{true≢false}
 use Rattle.cgl_num.proofs.text.builder.Builder.append.Goals as goal
 
 pub returns-then-is_err : goal.returns-then-is_err
