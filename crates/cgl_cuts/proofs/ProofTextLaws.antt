@@ -1,8 +1,8 @@
 -- Laws of texts of proofs.
-use Rattle.std.proofs.Common.{◌≡◌, ℕ, List, [], ◌∷◌, ◌++◌, map, flat_map, refl, sym, ap, ◌∙◌, subst, ◌+◌, ◌<◌, length, take, get_or, codes}
+use Rattle.std.proofs.Common.{◌≡◌, ℕ, List, [], ◌∷◌, ◌++◌, map, flat_map, refl, sym, ap, ◌∙◌, ◌+◌, ◌<◌, length, take, get_or, codes}
 use Rattle.std.specs.Fmt.{decimal}
 use Rattle.cgl_model.specs.declared.linear.Ineq.{Ineq}
-use Rattle.std.proofs.lemmas.List.{append_assoc, append-nil, take_more}
+use Rattle.std.proofs.lemmas.List.{append-nil}
 use Rattle.cgl_num.specs.Growth.{Grown, Grows}
 use Rattle.cgl_num.proofs.GrowthLaws.{flat_map_append, flat_map_more, grows_nothing, grows_then, grows_as}
 use Rattle.cgl_cuts.specs.declared.derive.step.Lin.{Lin}

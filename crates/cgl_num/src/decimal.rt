@@ -1,4 +1,4 @@
-ghost use Rattle.std.specs.Prelude.{◌≡◌, ℕ, ℤ, ◌<◌, ◌≤◌, ◌*◌, ◌%◌, ◌^◌, ◌≢◌, unsigned_abs, pos, negsuc, neg_ℤ, cond, ◌≤ℤ◌, ◌+◌, length, take, ◌++◌, decimal, replicate};
+ghost use Rattle.std.specs.Prelude.{◌≡◌, ℕ, ◌<◌, ◌≤◌, ◌*◌, ◌%◌, ◌^◌, ◌≢◌, pos, negsuc, neg_ℤ, cond, ◌≤ℤ◌, ◌+◌, length, take, ◌++◌, decimal, replicate};
 ghost use Rattle.cgl_num.specs.Decimal.{IsDecimal, decimal_of, decimal_text, magnitude_text, minus, padded, zero_decimal};
 
 use itoa::Buffer;

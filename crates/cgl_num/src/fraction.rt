@@ -1,4 +1,4 @@
-ghost use Rattle.std.specs.Prelude.{◌≡◌, ℤ, pos, ◌+◌, ◌<ℤ◌, ◌<◌, ◌≤◌, ◌^◌, unsigned_abs, ◌++◌, length, take};
+ghost use Rattle.std.specs.Prelude.{◌≡◌, pos, ◌+◌, ◌<ℤ◌, ◌<◌, ◌≤◌, ◌^◌, unsigned_abs, ◌++◌, length, take};
 ghost use Rattle.std.specs.Fmt.{signed_decimal};
 ghost use Rattle.cgl_num.specs.Fraction.{IsLowest, lowest, fraction_text};
 

@@ -1,4 +1,4 @@
-ghost use Rattle.std.specs.Prelude.{◌≡◌, ◌≢◌, ℤ, pos, ◌+◌, ◌-◌, ◌*◌, ◌%◌, ◌^◌, ◌<◌, ◌≤◌, ◌+ℤ◌, ◌-ℤ◌, ◌≤ℤ◌, negsuc, true, false, length, drop, ◌++◌, ◌∷◌, [], min, unsigned_abs, IfSome, IfNone, MatchResult, IsErrOf, ◌↔◌, Some, None};
+ghost use Rattle.std.specs.Prelude.{◌≡◌, ◌≢◌, pos, ◌+◌, ◌-◌, ◌%◌, ◌^◌, ◌<◌, ◌≤◌, ◌+ℤ◌, ◌-ℤ◌, ◌≤ℤ◌, negsuc, true, false, length, drop, ◌++◌, ◌∷◌, [], unsigned_abs, IfSome, IfNone, MatchResult, IsErrOf, ◌↔◌, Some, None};
 ghost use Rattle.cgl_num.specs.declared.number_text.NumberFault;
 ghost use Rattle.std.specs.List.{list_all, position_or_len, after_first};
 ghost use Rattle.cgl_num.specs.NumberText.{Word, is_digit, is_digits, is_exponent_letter, is_point, is_negative, unsigned, natural, near, near_exponent, has_exponent_form, digits_in, is_number, number, limit, is_in_range, reaches, IsCounted, IsForm};

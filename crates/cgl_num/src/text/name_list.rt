@@ -1,7 +1,6 @@
 //! A table of names.
 
 ghost use Rattle.std.specs.Prelude.{◌≡◌, ◌∷◌, ◌++◌, [], OnOk, bytes_eq, length, position};
-ghost use Rattle.std.specs.List.{position_from};
 ghost use Rattle.cgl_num.specs.Text.{is_one_of};
 ghost use Rattle.cgl_num.specs.Seen.{words};
 
