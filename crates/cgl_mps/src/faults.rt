@@ -16,10 +16,7 @@ ghost use Rattle.cgl_mps.specs.Carried.{HasPairs};
 use crate::bound::Bound;
 use crate::carried::Carried;
 use crate::counts::{is_full_of_columns, is_full_of_entries, is_full_of_rows};
-use crate::names::{
-    bound_counts, counts_after, has_entry, has_row, has_value, is_new_column, is_split,
-    lacks_column,
-};
+use crate::names::{bound_counts, counts_after, has_entry, has_row, is_new_column, is_split};
 use crate::numbers::{limit_of, number};
 use crate::record::{BoundKind, Record, Section, field};
 use crate::records::is_kept;
@@ -132,17 +129,11 @@ fn header_fault(before: &[Record], r: &Record) -> Option<u8>
 
 // OBJSENSE
 
-fn has_sense(r: &Record) -> bool
-    ensures { result ≡ has_sense r.now }
-{
-    sense_in(r).is_some()
-}
-
 fn is_sense_given(before: &[Record]) -> bool
     ensures { result ≡ not (no_word (senses before.now)) }
 {
     for r in before {
-        if has_sense(r) {
+        if sense_in(r).is_some() {
             return true;
         }
     }
@@ -163,13 +154,13 @@ fn sense_fault(before: &[Record], r: &Record) -> Option<u8>
 
 // ROWS
 
-/// The first fault of a row's name.
-fn row_name_fault(before: &Carried, name: &[u8]) -> Option<u8>
-    ensures { result
-        ≡ first_kind ((bytes_eq name.now marker, 9) ∷ (is_long name.now, 11)
-        ∷ (is_one_of (row_names before.now) name.now, 7)
-        ∷ (nat_le deck_limits.rows (length (row_names before.now)), 12) ∷ []) }
+fn row_fault(before: &Carried, r: &Record) -> Option<u8>
+    ensures { result ≡ first_kind (row_conditions deck_limits before.now r.now) }
 {
+    if row_in(r.fields()).is_none() {
+        return Some(3);
+    }
+    let name = field(r, 1);
     if same_bytes(name, b"'MARKER'") {
         return Some(9);
     }
@@ -183,15 +174,6 @@ fn row_name_fault(before: &Carried, name: &[u8]) -> Option<u8>
         return Some(12);
     }
     None
-}
-
-fn row_fault(before: &Carried, r: &Record) -> Option<u8>
-    ensures { result ≡ first_kind (row_conditions deck_limits before.now r.now) }
-{
-    if row_in(r.fields()).is_none() {
-        return Some(3);
-    }
-    row_name_fault(before, field(r, 1))
 }
 
 // COLUMNS
@@ -296,23 +278,22 @@ fn is_repeated(section: Section, before: &Carried, earlier: &[&[u8]], row: &[u8]
     ensures { result
         ≡ names_row (counting_pairs section before.now ++ pairs_of (words earlier.now)) row.now }
 {
-    has_value(section, before, row) || names_row(earlier, row)
+    before.pairs(section).pairs().has(row) || names_row(earlier, row)
 }
 
 fn pair_fault(
     section: Section,
     before: &Carried,
-    r: &Record,
+    counts: bool,
     earlier: &[&[u8]],
     row: &[u8],
     value: &[u8],
 ) -> Option<u8>
     requires { HasPairs section }
     ensures { result
-        ≡ first_kind (pair_conditions section before.now (counts_after section before.now r.now)
+        ≡ first_kind (pair_conditions section before.now counts
         (pairs_of (words earlier.now)) (row.now, value.now)) }
 {
-    let counts = counts_after(section, before, r);
     if counts && !has_row(before, row) {
         return Some(5);
     }
@@ -326,12 +307,11 @@ fn pair_fault(
 }
 
 /// The first fault of at most two pairs.
-fn pairs_fault(section: Section, before: &Carried, r: &Record, fields: &[&[u8]]) -> Option<u8>
+fn pairs_fault(section: Section, before: &Carried, counts: bool, fields: &[&[u8]]) -> Option<u8>
     requires few { length fields.now ≤ 5 }
     requires section { HasPairs section }
     ensures { result
-        ≡ first_kind (each_pair
-        (pair_conditions section before.now (counts_after section before.now r.now)) []
+        ≡ first_kind (each_pair (pair_conditions section before.now counts) []
         (pairs_of (words fields.now))) }
 {
     if fields.len() < 2 {
@@ -340,7 +320,7 @@ fn pairs_fault(section: Section, before: &Carried, r: &Record, fields: &[&[u8]])
     if let Some(kind) = pair_fault(
         section,
         before,
-        r,
+        counts,
         &[],
         word_at(fields, 0),
         word_at(fields, 1),
@@ -353,7 +333,7 @@ fn pairs_fault(section: Section, before: &Carried, r: &Record, fields: &[&[u8]])
     pair_fault(
         section,
         before,
-        r,
+        counts,
         &fields[..2],
         word_at(fields, 2),
         word_at(fields, 3),
@@ -368,7 +348,8 @@ fn set_fault(section: Section, before: &Carried, r: &Record) -> Option<u8>
     if count < 2 || count > 5 {
         return Some(3);
     }
-    pairs_fault(section, before, r, set_fields(r))
+    let counts = counts_after(section, before, r);
+    pairs_fault(section, before, counts, set_fields(r))
 }
 
 // BOUNDS
@@ -383,57 +364,32 @@ fn takes(kind: BoundKind, value: &Limit) -> bool
     }
 }
 
-fn is_number_or_none(value: Option<&[u8]>) -> bool
-    ensures { result ≡ unwrap_or (option_map is_number (option_map word value.entry)) true }
+fn is_value_of(kind: BoundKind, value: Option<&[u8]>) -> bool
+    ensures { result ≡ is_value_of kind (option_map word value.entry) }
 {
-    match value {
-        Some(value) => is_number_text(value),
-        None => true,
+    if !needs_value(kind) {
+        return match value {
+            Some(value) => is_number_text(value),
+            None => true,
+        };
     }
-}
-
-fn is_taken(kind: BoundKind, value: Option<&[u8]>) -> bool
-    ensures { result
-        ≡ unwrap_or
-        (option_map (takes kind) (limit (unwrap_or (option_map word value.entry) []))) false }
-{
     match limit_of(value) {
         Some(value) => takes(kind, &value),
         None => false,
     }
 }
 
-fn is_value_of(kind: BoundKind, value: Option<&[u8]>) -> bool
-    ensures { result ≡ is_value_of kind (option_map word value.entry) }
-{
-    if needs_value(kind) {
-        return is_taken(kind, value);
-    }
-    is_number_or_none(value)
-}
-
+#[tactic(auto, using(crate::proofs::NameLaws::lacked))]
 fn value_fault(before: &Carried, counts: bool, bound: &Bound) -> Option<u8>
     ensures { result ≡ first_kind (value_conditions before.now counts (Some bound.now)) }
 {
-    if counts && lacks_column(before, bound.column()) {
+    if counts && is_new_column(before, bound.column()) {
         return Some(6);
     }
     if !is_value_of(bound.kind(), bound.value()) {
         return Some(4);
     }
     None
-}
-
-/// The first fault of the bound that the fields are, or are not.
-fn formed_fault(before: &Carried, r: &Record) -> Option<u8>
-    ensures { result
-        ≡ first_kind ((is_none (bound_in r.now.fields), 3)
-        ∷ value_conditions before.now (counts_after Bounds before.now r.now) (bound_in r.now.fields)) }
-{
-    match bound_in(r.fields()) {
-        Some(bound) => value_fault(before, bound_counts(before, r), &bound),
-        None => Some(3),
-    }
 }
 
 fn bound_fault(before: &Carried, r: &Record) -> Option<u8>
@@ -443,7 +399,10 @@ fn bound_fault(before: &Carried, r: &Record) -> Option<u8>
     if same_bytes(kind, b"SC") || same_bytes(kind, b"SI") {
         return Some(9);
     }
-    formed_fault(before, r)
+    match bound_in(r.fields()) {
+        Some(bound) => value_fault(before, bound_counts(before, r), &bound),
+        None => Some(3),
+    }
 }
 
 // a line

@@ -48,19 +48,13 @@ fn name_of<'a>(records: &[Record<'a>]) -> &'a [u8]
     name
 }
 
-fn is_greatest(sense: &[u8]) -> bool
-    ensures { result ≡ is_one_of (codes "MAX" ∷ codes "MAXIMIZE" ∷ []) sense.now }
-{
-    same_bytes(sense, b"MAX") || same_bytes(sense, b"MAXIMIZE")
-}
-
 fn is_maximised(r: &Record) -> bool
     ensures { result
         ≡ unwrap_or
         (option_map (is_one_of (codes "MAX" ∷ codes "MAXIMIZE" ∷ [])) (sense_in r.now)) false }
 {
     match sense_in(r) {
-        Some(sense) => is_greatest(sense),
+        Some(sense) => same_bytes(sense, b"MAX") || same_bytes(sense, b"MAXIMIZE"),
         None => false,
     }
 }

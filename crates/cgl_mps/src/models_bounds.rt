@@ -1,16 +1,14 @@
 //! The bounds of columns that the records of a deck mean.
 
-ghost use Rattle.std.specs.Prelude.{◌≡◌, ◌&&◌, IfOk, pos, if◌then◌else◌, [], ◌∷◌, None, Some, filter_map};
-ghost use Rattle.std.specs.List.{list_any, cons_option};
+ghost use Rattle.std.specs.Prelude.{◌≡◌, ◌&&◌, pos, if◌then◌else◌, None, Some};
+ghost use Rattle.std.specs.List.{list_any};
 ghost use Rattle.cgl_num.specs.NumberText.{whole, finite};
-ghost use Rattle.cgl_mps.specs.Models.{makes_integer, lower_by, upper_by, is_upper, value_in, is_below_zero, lower_of, upper_of, bounds_of};
+ghost use Rattle.cgl_mps.specs.Models.{makes_integer, lower_by, upper_by, is_upper, value_in, is_below_zero, lower_of, upper_of};
 
-use crate::bound::{Bound, Bounds};
-use crate::carried::Carried;
+use crate::bound::Bound;
 use crate::numbers::limit_of;
 use crate::record::BoundKind;
-use cgl_num::{Dec, Limit, Memory};
-use std::alloc::Global;
+use cgl_num::{Dec, Limit};
 
 #[tactic(auto, unfolding(cgl_num::specs::Decimal::decimal_of))]
 pub(crate) fn zero() -> Dec
@@ -163,15 +161,4 @@ pub(crate) fn makes_integer(bounds: &[Bound]) -> bool
         }
     }
     false
-}
-
-/// The bounds that count for a column.
-pub(crate) fn bounds_of<'a>(
-    alloc: Global,
-    before: &Carried<'a>,
-    column: &[u8],
-) -> Result<Bounds<'a>, Memory>
-    ensures { IfOk result (λ found. found ≡ bounds_of before.now column.now) }
-{
-    before.bounds().bounds().on(alloc, column)
 }

@@ -10,7 +10,7 @@ use crate::bound::Bound;
 use crate::carried::Carried;
 use crate::columns::ReadColumn;
 use crate::models::copied_name;
-use crate::models_bounds::{bounds_of, lower_of, makes_integer, upper_of};
+use crate::models_bounds::{lower_of, makes_integer, upper_of};
 use crate::numbers::number;
 use crate::pairs::Pair;
 use cgl_model::{Column, Entries, Name, Seq};
@@ -37,7 +37,7 @@ fn push_entry(entries: &mut Entries, names: &Names, pair: &Pair) -> Result<(), M
     ensures { OnOk result (entries.new
         ≡ entries.old ++ cons_option (entry_of names.now pair.now) []) }
 {
-    match entry_of(names, pair.row(), pair.value())? {
+    match entry_of(names, pair.row, pair.value)? {
         Some(entry) => entries.push(entry),
         None => Ok(()),
     }
@@ -90,7 +90,7 @@ fn column_with(
 fn column_of(alloc: Global, before: &Carried, column: &ReadColumn) -> Result<Column, Memory>
     ensures { IfOk result (λ made. made ≡ made_column before.now column.now) }
 {
-    let found = bounds_of(alloc, before, column.name())?;
+    let found = before.bounds().bounds().on(alloc, column.name())?;
     column_with(alloc, before, column, found.as_slice())
 }
 

@@ -9,30 +9,21 @@ use crate::carried::Carried;
 use crate::models::copied_name;
 use crate::models_bounds::zero;
 use crate::numbers::number;
-use crate::pairs::Pairs;
 use crate::record::{Record, Section};
-use crate::sections::{is_data_in, row_in};
+use crate::sections::row_in;
 use cgl_model::{Row, RowKind, Seq};
 use cgl_num::{Dec, Memory};
 use std::alloc::Global;
-
-/// The value of the pair that names the row.
-#[tactic(auto, using(crate::proofs::ModelLaws::value_read))]
-fn value_among(pairs: &Pairs, row: &[u8]) -> Option<Dec>
-    ensures { result ≡ value_at pairs.now row.now }
-{
-    match pairs.find(row) {
-        Some(value) => number(value),
-        None => None,
-    }
-}
 
 /// The value for a row in RHS or RANGES.
 fn value_at(section: Section, before: &Carried, row: &[u8]) -> Option<Dec>
     requires { HasPairs section }
     ensures { result ≡ value_at (counting_pairs section before.now) row.now }
 {
-    value_among(before.pairs(section).pairs(), row)
+    match before.pairs(section).pairs().find(row) {
+        Some(value) => number(value),
+        None => None,
+    }
 }
 
 fn row_of(alloc: Global, before: &Carried, kind: RowKind, name: &[u8]) -> Result<Row, Memory>
@@ -51,7 +42,7 @@ fn push_row(alloc: Global, found: &mut Seq<Row>, before: &Carried, r: &Record) -
     ensures { OnOk result (found.new
         ≡ found.old ++ map (row_of before.now) (rows (r.now ∷ []))) }
 {
-    if !is_data_in(Section::Rows, r) {
+    if r.is_header() || !Section::Rows.is(r.section()) {
         return Ok(());
     }
     match row_in(r.fields()) {

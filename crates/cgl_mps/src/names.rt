@@ -1,9 +1,9 @@
 //! Rows, columns and pairs among the records.
 
-ghost use Rattle.std.specs.Prelude.{◌≡◌, false, not};
+ghost use Rattle.std.specs.Prelude.{◌≡◌, false};
 ghost use Rattle.cgl_num.specs.Text.{is_one_of};
 ghost use Rattle.cgl_mps.specs.declared.record.Section.TheVariants.{Bounds};
-ghost use Rattle.cgl_mps.specs.Sections.{column_names, counting_pairs, counts_after, row_names};
+ghost use Rattle.cgl_mps.specs.Sections.{counts_after, row_names};
 ghost use Rattle.cgl_mps.specs.Faults.{is_new_column, is_split, names_row, pairs_of_column};
 ghost use Rattle.cgl_mps.specs.Carried.{HasPairs};
 
@@ -28,14 +28,6 @@ pub(crate) fn is_new_column(before: &Carried, name: &[u8]) -> bool
     !columns.has_ended(name)
 }
 
-/// Whether no column has the name, by the names that the columns have.
-#[tactic(auto, using(crate::proofs::NameLaws::lacked))]
-pub(crate) fn lacks_column(before: &Carried, name: &[u8]) -> bool
-    ensures { result ≡ not (is_one_of (column_names before.now) name.now) }
-{
-    is_new_column(before, name)
-}
-
 /// Whether a line that does not name the column stands behind one that does.
 pub(crate) fn is_split(before: &Carried, name: &[u8]) -> bool
     ensures { result ≡ is_split before.now name.now }
@@ -55,14 +47,6 @@ pub(crate) fn has_entry(before: &Carried, column: &[u8], row: &[u8]) -> bool
         return false;
     }
     columns.has_entry(row)
-}
-
-/// Whether a pair of the set that counts names the row.
-pub(crate) fn has_value(section: Section, before: &Carried, row: &[u8]) -> bool
-    requires { HasPairs section }
-    ensures { result ≡ names_row (counting_pairs section before.now) row.now }
-{
-    before.pairs(section).has_value(row)
 }
 
 /// Whether the set of r, a line of RHS or RANGES, is the one that counts.

@@ -10,18 +10,12 @@ use cgl_num::{Dec, Limit};
 pub(crate) fn number(text: &[u8]) -> Option<Dec>
     ensures { result ≡ number text.now }
 {
-    match Dec::read(text) {
-        Ok(d) => Some(d),
-        Err(_) => None,
-    }
+    Dec::read(text).ok()
 }
 
 /// The bound's value that the text means, where it is one. No text means what an empty one does.
 pub(crate) fn limit_of(text: Option<&[u8]>) -> Option<Limit>
     ensures { result ≡ limit (unwrap_or (option_map word text.entry) []) }
 {
-    match Dec::read_bound(text.unwrap_or(&[])) {
-        Ok(value) => Some(value),
-        Err(_) => None,
-    }
+    Dec::read_bound(text.unwrap_or(&[])).ok()
 }

@@ -13,8 +13,8 @@ use std::marker::Model;
 
 #[derive(Drop)]
 pub(crate) struct Pair<'a> {
-    row: &'a [u8],
-    value: &'a [u8],
+    pub(crate) row: &'a [u8],
+    pub(crate) value: &'a [u8],
 }
 
 impl<'a> Model for Pair<'a> {
@@ -23,45 +23,6 @@ impl<'a> Model for Pair<'a> {
     ghost Value = { Said };
 
     ghost view = { λ it. (it.row.now, it.value.now) };
-}
-
-impl<'a> Pair<'a> {
-    pub(crate) fn row(&self) -> &'a [u8]
-        ensures { result.now ≡ self.now.0 }
-    {
-        self.row
-    }
-
-    pub(crate) fn value(&self) -> &'a [u8]
-        ensures { result.now ≡ self.now.1 }
-    {
-        self.value
-    }
-}
-
-fn push_pairs<'a>(pairs: &mut Vec<Pair<'a>>, fields: &[&'a [u8]]) -> Result<(), Memory>
-    ensures { OnOk result (pairs.new.items ≡ pairs.old.items ++ pairs_of (words fields.now)) }
-{
-    match fields {
-        [row, value, others @ ..] => {
-            let Ok(()) = pairs.push(Pair { row, value }) else {
-                return Err(Memory);
-            };
-            push_pairs(pairs, others)
-        }
-        _ => Ok(()),
-    }
-}
-
-fn value_for<'a>(pairs: &[Pair<'a>], row: &[u8]) -> Option<&'a [u8]>
-    ensures { option_map word result ≡ value_for pairs.now row.now }
-{
-    for pair in pairs {
-        if same_bytes(row, pair.row()) {
-            return Some(pair.value());
-        }
-    }
-    None
 }
 
 /// Pairs of row and value in the order in which they came, found by their rows.
@@ -92,7 +53,15 @@ impl<'a> Pairs<'a> {
     pub(crate) fn push_fields(&mut self, fields: &[&'a [u8]]) -> Result<(), Memory>
         ensures { OnOk result (self.new ≡ self.old ++ pairs_of (words fields.now)) }
     {
-        push_pairs(&mut self.pairs, fields)
+        match fields {
+            [row, value, others @ ..] => {
+                let Ok(()) = self.pairs.push(Pair { row, value }) else {
+                    return Err(Memory);
+                };
+                self.push_fields(others)
+            }
+            _ => Ok(()),
+        }
     }
 
     /// Whether a pair names the row.
@@ -107,7 +76,12 @@ impl<'a> Pairs<'a> {
     pub(crate) fn find(&self, row: &[u8]) -> Option<&'a [u8]>
         ensures { option_map word result ≡ value_for self.now row.now }
     {
-        value_for(self.pairs.as_slice(), row)
+        for pair in self.as_slice() {
+            if same_bytes(row, pair.row) {
+                return Some(pair.value);
+            }
+        }
+        None
     }
 
     pub(crate) fn as_slice(&self) -> &[Pair<'a>]

@@ -1,10 +1,9 @@
 //! What one record, or a list of records, says.
 
-ghost use Rattle.std.specs.Prelude.{◌≡◌, ◌≤◌, ◌∷◌, ◌&&◌, [], Some, if◌then◌else◌, length, map, not, option_map};
-ghost use Rattle.std.specs.List.{list_any};
+ghost use Rattle.std.specs.Prelude.{◌≡◌, ◌≤◌, ◌∷◌, ◌&&◌, [], Some, length, option_map};
 ghost use Rattle.cgl_num.specs.Text.{is_one_of};
-ghost use Rattle.cgl_mps.specs.Records.{same_section, has_header, data_in};
-ghost use Rattle.cgl_mps.specs.Sections.{sense_names, sense_in, row_kind, row_in, marker, is_marker, names_column, pairs_of, rest, entry_pairs, set_pairs, bound_kinds, needs_value, bound_with, bound_in, set_in, same_set, first_or, counts_after};
+ghost use Rattle.cgl_mps.specs.Records.{same_section, has_header};
+ghost use Rattle.cgl_mps.specs.Sections.{sense_names, sense_in, row_kind, row_in, is_marker, pairs_of, rest, entry_pairs, set_pairs, needs_value, bound_with, bound_in, set_in, same_set};
 ghost use Rattle.cgl_mps.specs.Faults.{names_row};
 ghost use Rattle.cgl_num.specs.Seen.{word, words};
 ghost use Rattle.cgl_mps.specs.Seen.{word_at, bound_kind};
@@ -13,13 +12,6 @@ use crate::bound::Bound;
 use crate::record::{BoundKind, Record, Section, field};
 use cgl_model::RowKind;
 use cgl_num::text::same_bytes;
-
-/// Whether the record is a data line of the section.
-pub(crate) fn is_data_in(section: Section, r: &Record) -> bool
-    ensures { result ≡ (not r.now.header && same_section section r.now.section) }
-{
-    !r.is_header() && section.is(r.section())
-}
 
 /// Whether the record is the header of the section.
 fn is_header_of(section: Section, r: &Record) -> bool
@@ -52,19 +44,12 @@ pub(crate) fn is_sense(text: &[u8]) -> bool
         || same_bytes(text, b"MINIMIZE")
 }
 
-/// Where the sense stands among the fields of a line of OBJSENSE.
-fn sense_place(r: &Record) -> usize
-    ensures { result ≡ (if r.now.header then 1 else 0) }
-{
-    if r.is_header() { 1 } else { 0 }
-}
-
 /// The word that stands in the place of the sense.
 pub(crate) fn sense_in<'a>(r: &Record<'a>) -> Option<&'a [u8]>
     ensures { option_map word result ≡ sense_in r.now }
 {
     if Section::Sense.is(r.section()) {
-        r.fields().get(sense_place(r)).copied()
+        r.fields().get(usize::from(r.is_header())).copied()
     } else {
         None
     }
@@ -108,12 +93,6 @@ pub(crate) fn is_marker(r: &Record) -> bool
     ensures { result ≡ is_marker r.now }
 {
     r.fields().len() == 3 && same_bytes(field(r, 1), b"'MARKER'")
-}
-
-pub(crate) fn names_column(name: &[u8], r: &Record) -> bool
-    ensures { result ≡ names_column name.now r.now }
-{
-    !is_marker(r) && same_bytes(name, field(r, 0))
 }
 
 /// The fields behind the first.

@@ -1,10 +1,8 @@
 //! The lines so far of RHS, of RANGES and of BOUNDS: the set of the first, and what counts.
 
-ghost use Rattle.std.specs.Prelude.{◌≡◌, ◌++◌, None, [], OnOk, option_map};
-ghost use Rattle.std.specs.List.{cons_option};
+ghost use Rattle.std.specs.Prelude.{◌≡◌, None, [], OnOk, option_map};
 ghost use Rattle.cgl_mps.specs.declared.record.Section.TheVariants.{Bounds as BoundLines};
-ghost use Rattle.cgl_mps.specs.Sections.{bound_in, same_set, set_in};
-ghost use Rattle.cgl_mps.specs.Faults.{names_row};
+ghost use Rattle.cgl_mps.specs.Sections.{same_set, set_in};
 ghost use Rattle.cgl_num.specs.Seen.{word};
 ghost use Rattle.cgl_mps.specs.Carried.{after_bound, after_pairs, counting_set};
 
@@ -24,18 +22,6 @@ fn counting_set<'a>(first: Option<Option<&'a [u8]>>, own: Option<&'a [u8]>) -> O
     match first {
         Some(first) => first,
         None => own,
-    }
-}
-
-/// Whether a line of a set counts, behind a first one.
-fn counts(first: Option<Option<&[u8]>>, own: Option<&[u8]>) -> bool
-    ensures { result ≡ same_set
-        (counting_set (option_map (option_map word) first.entry) (option_map word own.entry))
-        (option_map word own.entry) }
-{
-    match first {
-        Some(first) => same_set(first, own),
-        None => same_set(own, own),
     }
 }
 
@@ -66,13 +52,6 @@ impl<'a> ReadPairs<'a> {
         }
     }
 
-    /// Whether a pair that counts names the row.
-    pub(crate) fn has_value(&self, row: &[u8]) -> bool
-        ensures { result ≡ names_row self.now.pairs row.now }
-    {
-        self.pairs.has(row)
-    }
-
     pub(crate) fn pairs(&self) -> &Pairs<'a>
         ensures { result.now ≡ self.now.pairs }
     {
@@ -84,7 +63,8 @@ impl<'a> ReadPairs<'a> {
         ensures { result
             ≡ same_set (counting_set self.now.set (set_in section r.now)) (set_in section r.now) }
     {
-        counts(self.set, set_in(section, r))
+        let own = set_in(section, r);
+        same_set(counting_set(self.set, own), own)
     }
 
     /// Takes in one more line of the section.
@@ -92,24 +72,13 @@ impl<'a> ReadPairs<'a> {
         ensures { OnOk result (self.new ≡ after_pairs section self.old r.now) }
     {
         let own = set_in(section, r);
-        let counts = counts(self.set, own);
-        self.set = Some(counting_set(self.set, own));
-        if !counts {
+        let first = counting_set(self.set, own);
+        self.set = Some(first);
+        if !same_set(first, own) {
             return Ok(());
         }
         self.pairs.push_fields(set_fields(r))
     }
-}
-
-/// Appends the bound that a line says.
-fn push_bound<'a>(bounds: &mut Bounds<'a>, r: &Record<'a>) -> Result<(), Memory>
-    ensures { OnOk result (bounds.new
-        ≡ bounds.old ++ cons_option (bound_in r.now.fields) []) }
-{
-    let Some(bound) = bound_in(r.fields()) else {
-        return Ok(());
-    };
-    bounds.push(bound)
 }
 
 /// The set of the first line of BOUNDS, and the bounds that count.
@@ -150,7 +119,8 @@ impl<'a> ReadBounds<'a> {
         ensures { result
             ≡ same_set (counting_set self.now.set (set_in BoundLines r.now)) (set_in BoundLines r.now) }
     {
-        counts(self.set, set_in(Section::Bounds, r))
+        let own = set_in(Section::Bounds, r);
+        same_set(counting_set(self.set, own), own)
     }
 
     /// Takes in one more line of BOUNDS.
@@ -158,11 +128,14 @@ impl<'a> ReadBounds<'a> {
         ensures { OnOk result (self.new ≡ after_bound self.old r.now) }
     {
         let own = set_in(Section::Bounds, r);
-        let counts = counts(self.set, own);
-        self.set = Some(counting_set(self.set, own));
-        if !counts {
+        let first = counting_set(self.set, own);
+        self.set = Some(first);
+        if !same_set(first, own) {
             return Ok(());
         }
-        push_bound(&mut self.bounds, r)
+        match bound_in(r.fields()) {
+            Some(bound) => self.bounds.push(bound),
+            None => Ok(()),
+        }
     }
 }

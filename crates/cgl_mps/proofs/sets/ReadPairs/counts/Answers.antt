@@ -4,4 +4,6 @@ use Rattle.cgl_mps.specs.Carried.{counting_set}
 use Rattle.cgl_mps.proofs.sets.ReadPairs.counts.Goals as goal
 
 pub returns : goal.returns
-returns c = c.counts.ensures ∙ ap₂ (λ first own. same_set (counting_set first own) own) (ap (λ read. read.set) c.self.view_is) c.set_in.ensures
+returns c =
+    c.same_set.ensures
+    ∙ ap₂ same_set (c.counting_set.ensures ∙ ap₂ counting_set (ap (λ read. read.set) c.self.view_is) c.set_in-own.ensures) c.set_in-own.ensures
