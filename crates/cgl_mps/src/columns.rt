@@ -1,6 +1,6 @@
 //! The columns of the lines so far.
 
-ghost use Rattle.std.specs.Prelude.{◌≡◌, OnOk, length, option_map};
+ghost use Rattle.std.specs.Prelude.{◌≡◌, OnOk, length};
 ghost use Rattle.cgl_num.specs.Text.{is_one_of};
 ghost use Rattle.cgl_num.specs.Seen.{words};
 ghost use Rattle.cgl_mps.specs.Sections.{pairs_of};
@@ -19,9 +19,9 @@ use std::marker::Model;
 /// A column: its name, whether a marker makes it integer, and its pairs.
 #[derive(Drop)]
 pub(crate) struct ReadColumn<'a> {
-    name: &'a [u8],
-    marked: bool,
-    pairs: Pairs<'a>,
+    pub(crate) name: &'a [u8],
+    pub(crate) marked: bool,
+    pub(crate) pairs: Pairs<'a>,
 }
 
 impl<'a> Model for ReadColumn<'a> {
@@ -33,24 +33,6 @@ impl<'a> Model for ReadColumn<'a> {
 }
 
 impl<'a> ReadColumn<'a> {
-    pub(crate) fn name(&self) -> &'a [u8]
-        ensures { result.now ≡ self.now.name }
-    {
-        self.name
-    }
-
-    pub(crate) fn is_marked(&self) -> bool
-        ensures { result ≡ self.now.marked }
-    {
-        self.marked
-    }
-
-    pub(crate) fn pairs(&self) -> &Pairs<'a>
-        ensures { result.now ≡ self.now.pairs }
-    {
-        &self.pairs
-    }
-
     /// Takes in the pairs on one more of its lines.
     fn push_fields(&mut self, fields: &[&'a [u8]]) -> Result<(), Memory>
         ensures { OnOk result (self.new ≡ with_pairs (pairs_of (words fields.now)) self.old) }
@@ -64,10 +46,10 @@ impl<'a> ReadColumn<'a> {
 #[derive(Drop)]
 pub(crate) struct ReadColumns<'a> {
     names: Names<'a>,
-    ended: Vec<ReadColumn<'a>>,
-    current: Option<ReadColumn<'a>>,
+    pub(crate) ended: Vec<ReadColumn<'a>>,
+    pub(crate) current: Option<ReadColumn<'a>>,
     word: &'a [u8],
-    count: usize,
+    pub(crate) count: usize,
 }
 
 impl<'a> Model for ReadColumns<'a> {
@@ -103,7 +85,7 @@ impl<'a> ReadColumns<'a> {
         ensures { result ≡ is_current self.now.current name.now }
     {
         match &self.current {
-            Some(column) => same_bytes(name, column.name()),
+            Some(column) => same_bytes(name, column.name),
             None => false,
         }
     }
@@ -113,34 +95,11 @@ impl<'a> ReadColumns<'a> {
         ensures { result ≡ names_row (own_pairs self.now.current) row.now }
     {
         match &self.current {
-            Some(column) => column.pairs().has(row),
+            Some(column) => column.pairs.has(row),
             None => false,
         }
     }
 
-    /// The count of entries.
-    pub(crate) fn entries(&self) -> usize
-        ensures { result ≡ self.now.count }
-    {
-        self.count
-    }
-
-    /// The column that goes on.
-    pub(crate) fn current(&self) -> Option<&ReadColumn<'a>>
-        ensures { option_map (λ c. c.now) result ≡ self.now.current }
-    {
-        self.current.as_ref()
-    }
-
-    /// The columns that have ended.
-    pub(crate) fn ended(&self) -> &[ReadColumn<'a>]
-        ensures { result.now ≡ self.now.ended }
-    {
-        self.ended.as_slice()
-    }
-}
-
-impl<'a> ReadColumns<'a> {
     /// Puts the column that goes on behind those that have ended.
     fn end_current(&mut self) -> Result<(), Memory>
         ensures { OnOk result (self.new ≡ after_marker self.old self.old.word) }
@@ -148,7 +107,7 @@ impl<'a> ReadColumns<'a> {
         let Some(column) = self.current.take() else {
             return Ok(());
         };
-        let name = column.name();
+        let name = column.name;
         let Ok(()) = self.ended.push(column) else {
             return Err(Memory);
         };

@@ -40,9 +40,9 @@ pub(crate) fn is_full_of_entries(before: &Carried, earlier: &[&[u8]]) -> bool
         ≡ nat_le deck_limits.entries
         (length (flat_map entry_pairs (column_records before.now) ++ pairs_of (words earlier.now))) }
 {
-    let count = before.columns().entries();
-    if count >= ENTRIES {
+    let columns = before.columns();
+    if columns.count >= ENTRIES {
         return true;
     }
-    count + pair_count(earlier) >= ENTRIES
+    columns.count + pair_count(earlier) >= ENTRIES
 }
