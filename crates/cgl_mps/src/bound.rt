@@ -1,7 +1,6 @@
 //! Bounds as a line of BOUNDS says them.
 
-ghost use Rattle.std.specs.Prelude.{◌≡◌, ◌∷◌, ◌++◌, [], IfOk, OnOk, bytes_eq, filter, if◌then◌else◌, option_map};
-ghost use Rattle.cgl_num.specs.Seen.{word};
+ghost use Rattle.std.specs.Prelude.{◌≡◌, ◌∷◌, ◌++◌, [], IfOk, OnOk, bytes_eq, filter, if◌then◌else◌};
 
 use crate::record::BoundKind;
 use cgl_num::Memory;
@@ -12,10 +11,10 @@ use std::marker::Model;
 /// A bound on a column, in a set or in none, with a value or none.
 #[derive(Drop)]
 pub struct Bound<'a> {
-    kind: BoundKind,
-    set: Option<&'a [u8]>,
-    column: &'a [u8],
-    value: Option<&'a [u8]>,
+    pub(crate) kind: BoundKind,
+    pub(crate) set: Option<&'a [u8]>,
+    pub(crate) column: &'a [u8],
+    pub(crate) value: Option<&'a [u8]>,
 }
 
 impl<'a> Model for Bound<'a> {
@@ -26,66 +25,6 @@ impl<'a> Model for Bound<'a> {
     ghost Value = { Said };
 
     ghost view = { λ it. record { kind = it.kind; set = option_map word it.set; column = it.column.now; value = option_map word it.value } };
-}
-
-impl<'a> Bound<'a> {
-    pub(crate) fn new(
-        kind: BoundKind,
-        set: Option<&'a [u8]>,
-        column: &'a [u8],
-        value: Option<&'a [u8]>,
-    ) -> Bound<'a>
-        ensures { result
-            ≡ record {
-              kind = kind;
-              set = option_map word set.entry;
-              column = column.now;
-              value = option_map word value.entry;
-            } }
-    {
-        Bound {
-            kind,
-            set,
-            column,
-            value,
-        }
-    }
-
-    /// The same bound once more, of the same text.
-    pub(crate) fn again(&self) -> Bound<'a>
-        ensures { result ≡ self.now }
-    {
-        Bound {
-            kind: self.kind,
-            set: self.set,
-            column: self.column,
-            value: self.value,
-        }
-    }
-
-    pub(crate) fn kind(&self) -> BoundKind
-        ensures { result ≡ self.now.kind }
-    {
-        self.kind
-    }
-
-    pub(crate) fn set(&self) -> Option<&'a [u8]>
-        ensures { option_map word result ≡ self.now.set }
-    {
-        self.set
-    }
-
-    pub(crate) fn column(&self) -> &'a [u8]
-        ensures { result.now ≡ self.now.column }
-    {
-        self.column
-    }
-
-    pub(crate) fn value(&self) -> Option<&'a [u8]>
-        ensures { option_map word result ≡ self.now.value }
-    {
-        self.value
-    }
 }
 
 /// Bounds in the order in which they came, found by their columns.
@@ -127,11 +66,15 @@ impl<'a> Bounds<'a> {
         ensures { OnOk result (self.new
             ≡ self.old ++ (if bytes_eq column.now bound.now.column then bound.now ∷ [] else [])) }
     {
-        if same_bytes(column, bound.column()) {
-            self.push(bound.again())
-        } else {
-            Ok(())
+        if !same_bytes(column, bound.column) {
+            return Ok(());
         }
+        self.push(Bound {
+            kind: bound.kind,
+            set: bound.set,
+            column: bound.column,
+            value: bound.value,
+        })
     }
 
     /// Those on the column, in their order.

@@ -2,11 +2,10 @@
 
 ghost use Rattle.std.specs.Prelude.{◌≡◌, ◌∷◌, ◌++◌, [], OnOk, false};
 ghost use Rattle.cgl_mps.specs.declared.record.Section.TheVariants.{Columns, Bounds};
-ghost use Rattle.cgl_num.specs.Seen.{words};
 ghost use Rattle.cgl_mps.specs.Records.{data_in};
 ghost use Rattle.cgl_mps.specs.Sections.{row_names};
 ghost use Rattle.cgl_mps.specs.Found.{is_data_of};
-ghost use Rattle.cgl_mps.specs.Carried.{Adds, HasPairs, IsBounds, IsCarried, IsColumns, IsPairs, named_in, splits};
+ghost use Rattle.cgl_mps.specs.Carried.{Adds, HasPairs, IsBounds, IsCarried, IsColumns, IsPairs, splits};
 
 use crate::columns::ReadColumns;
 use crate::record::{Record, Section};
@@ -47,16 +46,6 @@ impl<'a> Model for Carried<'a> {
     ghost invariant = { λ it. IsCarried it.parts.records.items it.parts.rows it.parts.columns it.parts.rhs it.parts.ranges it.parts.bounds };
 }
 
-/// Takes in the name of the row that the fields say, where they say one.
-fn add_row<'a>(rows: &mut Names<'a>, fields: &[&'a [u8]]) -> Result<(), Memory>
-    ensures { OnOk result (rows.new ≡ rows.old ++ named_in (words fields.now)) }
-{
-    match row_in(fields) {
-        Some((_, name)) => rows.push(name),
-        None => Ok(()),
-    }
-}
-
 impl<'a> Parts<'a> {
     fn new(alloc: Global) -> Parts<'a>
         ensures good { IsCarried result.records.items result.rows result.columns result.rhs result.ranges result.bounds }
@@ -81,7 +70,10 @@ impl<'a> Parts<'a> {
             return Ok(());
         }
         match r.section() {
-            Section::Rows => add_row(&mut self.rows, r.fields()),
+            Section::Rows => match row_in(r.fields()) {
+                Some((_, name)) => self.rows.push(name),
+                None => Ok(()),
+            },
             Section::Columns => self.columns.add(alloc, r),
             Section::Rhs => self.rhs.add(Section::Rhs, r),
             Section::Ranges => self.ranges.add(Section::Ranges, r),

@@ -1,29 +1,20 @@
 //! Whether the records have as much as a deck may have.
 
 ghost use Rattle.std.specs.Prelude.{◌≡◌, ◌++◌, ◌<◌, ◌^◌, flat_map, length, nat_le};
-ghost use Rattle.cgl_mps.specs.Sections.{column_names, column_records, entry_pairs, pairs_of, row_names};
+ghost use Rattle.cgl_mps.specs.Sections.{column_records, entry_pairs, pairs_of};
 ghost use Rattle.cgl_mps.specs.Decode.{deck_limits};
 ghost use Rattle.cgl_num.specs.Seen.{words};
 
 use crate::carried::Carried;
 
-const ROWS: usize = 1 << 20;
+/// The most rows that a deck has.
+pub(crate) const MOST_ROWS: usize = 1 << 20;
 
-const COLUMNS: usize = 1 << 20;
+/// The most columns that a deck has.
+pub(crate) const MOST_COLUMNS: usize = 1 << 20;
 
-const ENTRIES: usize = 1 << 22;
-
-pub(crate) fn is_full_of_rows(before: &Carried) -> bool
-    ensures { result ≡ nat_le deck_limits.rows (length (row_names before.now)) }
-{
-    before.rows().len() >= ROWS
-}
-
-pub(crate) fn is_full_of_columns(before: &Carried) -> bool
-    ensures { result ≡ nat_le deck_limits.columns (length (column_names before.now)) }
-{
-    before.columns().len() >= COLUMNS
-}
+/// The most entries that a deck has.
+const MOST_ENTRIES: usize = 1 << 22;
 
 /// The count of pairs in the fields.
 #[tactic(auto, using(crate::proofs::CountLaws::pair_count))]
@@ -41,8 +32,8 @@ pub(crate) fn is_full_of_entries(before: &Carried, earlier: &[&[u8]]) -> bool
         (length (flat_map entry_pairs (column_records before.now) ++ pairs_of (words earlier.now))) }
 {
     let columns = before.columns();
-    if columns.count >= ENTRIES {
+    if columns.count >= MOST_ENTRIES {
         return true;
     }
-    columns.count + pair_count(earlier) >= ENTRIES
+    columns.count + pair_count(earlier) >= MOST_ENTRIES
 }

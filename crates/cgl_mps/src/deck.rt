@@ -4,7 +4,6 @@ ghost use Rattle.cgl_num.specs.Seen.{words};
 ghost use Rattle.cgl_num.specs.Text.{lines_of};
 ghost use Rattle.cgl_mps.specs.Records.{is_kept, kept, record_of, section_after};
 ghost use Rattle.cgl_mps.specs.Faults.{fault_after};
-ghost use Rattle.cgl_mps.specs.Models.{model_of};
 ghost use Rattle.cgl_mps.specs.Decode.{decode, deck_limits, Deck, Fault};
 ghost use Rattle.cgl_mps.specs.Carried.{splits};
 
@@ -77,16 +76,6 @@ fn keep<'a>(alloc: Global, before: &mut Carried<'a>, r: Record<'a>) -> Result<()
     }
 }
 
-fn whole_model(alloc: Global, before: &Carried) -> Result<Model, DeckError>
-    ensures ok { IfOk result (λ m. m ≡ model_of before.now) }
-    ensures memory { IfErr result (λ e. e ≡ DeckError.Memory) }
-{
-    match model_of(alloc, before) {
-        Ok(model) => Ok(model),
-        Err(_) => Err(DeckError::Memory),
-    }
-}
-
 /// The model that the lines mean. `before`, which has no records, is left with those that were read.
 fn model_from<'a>(
     alloc: Global,
@@ -109,7 +98,10 @@ fn model_from<'a>(
         section = r.section();
         keep(alloc, before, r)?;
         if section.is(Section::End) {
-            return whole_model(alloc, before);
+            let Ok(model) = model_of(alloc, before) else {
+                return Err(DeckError::Memory);
+            };
+            return Ok(model);
         }
         n += 1;
     }

@@ -15,7 +15,7 @@ ghost use Rattle.cgl_mps.specs.Carried.{HasPairs};
 
 use crate::bound::Bound;
 use crate::carried::Carried;
-use crate::counts::{is_full_of_columns, is_full_of_entries, is_full_of_rows};
+use crate::counts::{MOST_COLUMNS, MOST_ROWS, is_full_of_entries};
 use crate::names::{bound_counts, counts_after, has_entry, has_row, is_new_column, is_split};
 use crate::numbers::{limit_of, number};
 use crate::record::{BoundKind, Record, Section, field};
@@ -170,7 +170,7 @@ fn row_fault(before: &Carried, r: &Record) -> Option<u8>
     if has_row(before, name) {
         return Some(7);
     }
-    if is_full_of_rows(before) {
+    if before.rows().len() >= MOST_ROWS {
         return Some(12);
     }
     None
@@ -248,7 +248,7 @@ fn column_fault(before: &Carried, r: &Record) -> Option<u8>
     if is_split(before, name) {
         return Some(8);
     }
-    if is_new_column(before, name) && is_full_of_columns(before) {
+    if is_new_column(before, name) && before.columns().len() >= MOST_COLUMNS {
         return Some(12);
     }
     entries_fault(before, name, entry_fields(r))
@@ -383,10 +383,10 @@ fn is_value_of(kind: BoundKind, value: Option<&[u8]>) -> bool
 fn value_fault(before: &Carried, counts: bool, bound: &Bound) -> Option<u8>
     ensures { result ≡ first_kind (value_conditions before.now counts (Some bound.now)) }
 {
-    if counts && is_new_column(before, bound.column()) {
+    if counts && is_new_column(before, bound.column) {
         return Some(6);
     }
-    if !is_value_of(bound.kind(), bound.value()) {
+    if !is_value_of(bound.kind, bound.value) {
         return Some(4);
     }
     None

@@ -67,7 +67,7 @@ fn finite(value: Limit) -> Option<Dec>
 fn value_in(b: &Bound) -> Option<Dec>
     ensures { result ≡ value_in b.now }
 {
-    match limit_of(b.value()) {
+    match limit_of(b.value) {
         Some(value) => finite(value),
         None => None,
     }
@@ -94,7 +94,7 @@ fn is_below_zero(value: Option<Dec>) -> bool
 fn is_negative_upper(b: &Bound) -> bool
     ensures { result ≡ (is_upper b.now.kind && is_below_zero (value_in b.now)) }
 {
-    is_upper(b.kind()) && is_below_zero(value_in(b))
+    is_upper(b.kind) && is_below_zero(value_in(b))
 }
 
 fn has_negative_upper(bounds: &[Bound]) -> bool
@@ -127,7 +127,7 @@ pub(crate) fn lower_of(bounds: &[Bound]) -> Option<Dec>
 {
     let mut lower = lower_unset(bounds);
     for b in bounds {
-        lower = lower_by(b.kind(), value_in(b)).unwrap_or(lower);
+        lower = lower_by(b.kind, value_in(b)).unwrap_or(lower);
     }
     lower
 }
@@ -138,7 +138,7 @@ pub(crate) fn upper_of(bounds: &[Bound]) -> Option<Dec>
 {
     let mut upper = None;
     for b in bounds {
-        upper = upper_by(b.kind(), value_in(b)).unwrap_or(upper);
+        upper = upper_by(b.kind, value_in(b)).unwrap_or(upper);
     }
     upper
 }
@@ -156,7 +156,7 @@ pub(crate) fn makes_integer(bounds: &[Bound]) -> bool
     ensures { result ≡ list_any (λ b. makes_integer b.kind) bounds.now }
 {
     for b in bounds {
-        if is_integer(b.kind()) {
+        if is_integer(b.kind) {
             return true;
         }
     }

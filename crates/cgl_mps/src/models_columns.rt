@@ -1,7 +1,6 @@
 //! The columns that the records of a deck mean.
 
-ghost use Rattle.std.specs.Prelude.{◌≡◌, ◌++◌, IfOk, OnOk, [], map, filter_map};
-ghost use Rattle.std.specs.List.{cons_option};
+ghost use Rattle.std.specs.Prelude.{◌≡◌, IfOk, map, filter_map};
 ghost use Rattle.cgl_mps.specs.Sections.{column_names};
 ghost use Rattle.cgl_mps.specs.Models.{column_of, entry_of};
 ghost use Rattle.cgl_mps.specs.Carried.{made_column};
@@ -32,22 +31,15 @@ fn entry_of(names: &Names, row: &[u8], value: &[u8]) -> Result<Option<(u32, Dec)
     Ok(Some((i, d)))
 }
 
-fn push_entry(entries: &mut Entries, names: &Names, pair: &Pair) -> Result<(), Memory>
-    ensures { OnOk result (entries.new
-        ≡ entries.old ++ cons_option (entry_of names.now pair.now) []) }
-{
-    match entry_of(names, pair.row, pair.value)? {
-        Some(entry) => entries.push(entry),
-        None => Ok(()),
-    }
-}
-
 fn entries_of(alloc: Global, names: &Names, pairs: &[Pair]) -> Result<Entries, Memory>
     ensures { IfOk result (λ entries. entries ≡ filter_map (entry_of names.now) pairs.now) }
 {
     let mut entries = Entries::new(alloc);
     for pair in pairs {
-        push_entry(&mut entries, names, pair)?;
+        let Some(entry) = entry_of(names, pair.row, pair.value)? else {
+            continue;
+        };
+        entries.push(entry)?;
     }
     Ok(entries)
 }

@@ -62,11 +62,11 @@ pub enum BoundKind {
 /// A line of a deck with its section and its fields. A line that is ignored has no fields.
 #[derive(Drop)]
 pub struct Record<'a> {
-    line: u64,
-    length: usize,
-    section: Section,
-    header: bool,
-    fields: Vec<&'a [u8]>,
+    pub(crate) line: u64,
+    pub(crate) length: usize,
+    pub(crate) section: Section,
+    pub(crate) header: bool,
+    pub(crate) fields: Vec<&'a [u8]>,
 }
 
 impl<'a> Model for Record<'a> {
@@ -79,31 +79,6 @@ impl<'a> Model for Record<'a> {
 }
 
 impl<'a> Record<'a> {
-    pub(crate) fn new(
-        line: u64,
-        length: usize,
-        section: Section,
-        header: bool,
-        fields: Vec<&'a [u8]>,
-    ) -> Record<'a>
-        ensures { result
-            ≡ record {
-              line = line;
-              bytes = length;
-              section = section;
-              header = header;
-              fields = map (λ f. f.now) fields.entry.items;
-            } }
-    {
-        Record {
-            line,
-            length,
-            section,
-            header,
-            fields,
-        }
-    }
-
     /// The line's number from 1.
     pub fn line(&self) -> u64
         ensures { result ≡ self.now.line }

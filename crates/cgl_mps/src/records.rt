@@ -93,7 +93,13 @@ pub(crate) fn record_of<'a>(
     };
     let header = is_header(line, fields.as_slice());
     let section = section_after(section, header, fields.as_slice());
-    Ok(Record::new(n, line.len(), section, header, fields))
+    Ok(Record {
+        line: n,
+        length: line.len(),
+        section,
+        header,
+        fields,
+    })
 }
 
 /// Whether the record has fields.

@@ -1,6 +1,6 @@
 //! What one record, or a list of records, says.
 
-ghost use Rattle.std.specs.Prelude.{◌≡◌, ◌≤◌, ◌∷◌, ◌&&◌, [], Some, length, option_map};
+ghost use Rattle.std.specs.Prelude.{◌≡◌, ◌≤◌, ◌&&◌, length, option_map};
 ghost use Rattle.cgl_num.specs.Text.{is_one_of};
 ghost use Rattle.cgl_mps.specs.Records.{same_section, has_header};
 ghost use Rattle.cgl_mps.specs.Sections.{sense_names, sense_in, row_kind, row_in, is_marker, pairs_of, rest, entry_pairs, set_pairs, needs_value, bound_with, bound_in, set_in, same_set};
@@ -187,25 +187,35 @@ pub(crate) fn needs_value(kind: BoundKind) -> bool
     }
 }
 
-/// The bound of two fields behind a kind: a column and its value, or a set and a column.
-fn bound_of_two<'a>(kind: BoundKind, first: &'a [u8], second: &'a [u8]) -> Bound<'a>
-    ensures { Some result ≡ bound_with kind (needs_value kind) (first.now ∷ second.now ∷ []) }
-{
-    if needs_value(kind) {
-        Bound::new(kind, None, first, Some(second))
-    } else {
-        Bound::new(kind, Some(first), second, None)
-    }
-}
-
 /// The bound that the fields behind a kind say, where they are of the form.
 fn bound_with<'a>(kind: BoundKind, fields: &[&'a [u8]]) -> Option<Bound<'a>>
     ensures { result ≡ bound_with kind (needs_value kind) (words fields.now) }
 {
     match fields {
-        [column] if !needs_value(kind) => Some(Bound::new(kind, None, column, None)),
-        [first, second] => Some(bound_of_two(kind, first, second)),
-        [set, column, value] => Some(Bound::new(kind, Some(set), column, Some(value))),
+        [column, value] if needs_value(kind) => Some(Bound {
+            kind,
+            set: None,
+            column,
+            value: Some(value),
+        }),
+        [column] if !needs_value(kind) => Some(Bound {
+            kind,
+            set: None,
+            column,
+            value: None,
+        }),
+        [set, column] => Some(Bound {
+            kind,
+            set: Some(set),
+            column,
+            value: None,
+        }),
+        [set, column, value] => Some(Bound {
+            kind,
+            set: Some(set),
+            column,
+            value: Some(value),
+        }),
         _ => None,
     }
 }
@@ -228,7 +238,7 @@ pub(crate) fn set_in<'a>(section: Section, r: &Record<'a>) -> Option<&'a [u8]>
 {
     if section.is(Section::Bounds) {
         return match bound_in(r.fields()) {
-            Some(bound) => bound.set(),
+            Some(bound) => bound.set,
             None => None,
         };
     }

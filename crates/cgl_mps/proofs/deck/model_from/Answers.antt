@@ -1,5 +1,4 @@
 use Rattle.std.proofs.Common.{◌≡◌, ◌+◌, None, true, false, refl, sym, ap, ap₂, ◌∙◌}
-use Rattle.std.proofs.lemmas.Result.{IfOk-weaker}
 use Rattle.cgl_mps.specs.declared.record.Section.TheVariants.{Start}
 use Rattle.cgl_mps.specs.Decode.{deck_limits, Deck}
 use Rattle.cgl_mps.specs.Faults.{fault_after}
@@ -28,7 +27,7 @@ pub returns-then-is-clause-model : goal.returns-then-is-clause-model
 returns-then-is-clause-model c =
     let ended = line_read c.args.bytes.now c.loop-line.n c.loop-line.section c.section-section.result c.loop-line.before c.keep.new.before c.in_ok-r.r c.args.lines.now c.loop-line.line-index _ None true
     c.loop-line-test.true c.loop-line.invariant.reading c.in_ok-r.ensures.record c.in_ok-r.ensures.sound c.section-section.ensures c.in_ok-keep.ensures.ok (sym c.is.ensures ∙ c.if-is.true) in
-    IfOk-weaker c.whole_model.result _ _ (λ m is. ended ∙ ap Deck (sym is)) c.whole_model.ensures.ok
+    ended ∙ ap Deck (sym c.in-Ok.ensures)
 
 pub loop-line-preserved : goal.loop-line-preserved
 loop-line-preserved c =

@@ -17,5 +17,5 @@ one_more bounds i b before after within is set =
 pub loop-b-preserved : goal.loop-b-preserved
 loop-b-preserved c =
     one_more c.args.bounds.now c.loop-b.b-index c.b-item.result c.loop-b.lower c.unwrap_or-lower.result c.loop-b-test.true c.b-item.is
-    (c.unwrap_or-lower.ensures ∙ ap (λ set. unwrap_or set c.loop-b.lower) (c.lower_by.ensures ∙ ap₂ lower_by c.kind.ensures c.value_in.ensures))
+    (c.unwrap_or-lower.ensures ∙ ap (λ set. unwrap_or set c.loop-b.lower) (c.lower_by.ensures ∙ ap₂ lower_by (ap (λ (b : Bound). b.kind) c.b.view_is) c.value_in.ensures))
     ∙ c.loop-b.invariant

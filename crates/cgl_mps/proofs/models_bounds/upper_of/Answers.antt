@@ -8,7 +8,7 @@ pub loop-b-preserved : goal.loop-b-preserved
 loop-b-preserved c =
     last_turn (λ (b : Bound). upper_by b.kind (value_in b)) c.args.bounds.now c.loop-b.b-index c.b-item.result c.loop-b.upper c.unwrap_or-upper.result (upper_of c.args.bounds.now)
     c.loop-b-test.true c.b-item.is
-    (c.unwrap_or-upper.ensures ∙ ap (λ o. unwrap_or o c.loop-b.upper) (c.upper_by.ensures ∙ ap₂ upper_by c.kind.ensures c.value_in.ensures))
+    (c.unwrap_or-upper.ensures ∙ ap (λ o. unwrap_or o c.loop-b.upper) (c.upper_by.ensures ∙ ap₂ upper_by (ap (λ (b : Bound). b.kind) c.b.view_is) c.value_in.ensures))
     c.loop-b.invariant
 
 pub returns : goal.returns
