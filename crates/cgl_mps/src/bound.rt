@@ -1,6 +1,6 @@
 //! Bounds as a line of BOUNDS says them.
 
-ghost use Rattle.std.specs.Prelude.{◌≡◌, ◌∷◌, ◌++◌, [], IfOk, OnOk, bytes_eq, filter, if◌then◌else◌};
+ghost use Rattle.std.specs.Prelude.{◌≡◌, ◌∷◌, ◌++◌, [], IfOk, OnOk, bytes_eq, filter};
 
 use crate::record::BoundKind;
 use cgl_num::Memory;
@@ -61,22 +61,6 @@ impl<'a> Bounds<'a> {
         Ok(())
     }
 
-    /// Takes in the bound, where it is on the column.
-    fn push_own(&mut self, bound: &Bound<'a>, column: &[u8]) -> Result<(), Memory>
-        ensures { OnOk result (self.new
-            ≡ self.old ++ (if bytes_eq column.now bound.now.column then bound.now ∷ [] else [])) }
-    {
-        if !same_bytes(column, bound.column) {
-            return Ok(());
-        }
-        self.push(Bound {
-            kind: bound.kind,
-            set: bound.set,
-            column: bound.column,
-            value: bound.value,
-        })
-    }
-
     /// Those on the column, in their order.
     pub(crate) fn on(&self, alloc: Global, column: &[u8]) -> Result<Bounds<'a>, Memory>
         ensures { IfOk result (λ found. found ≡ filter (λ b. bytes_eq column.now b.column) self.now) }
@@ -84,7 +68,15 @@ impl<'a> Bounds<'a> {
         let bounds = self.as_slice();
         let mut found = Bounds::new(alloc);
         for bound in bounds {
-            found.push_own(bound, column)?;
+            if !same_bytes(column, bound.column) {
+                continue;
+            }
+            found.push(Bound {
+                kind: bound.kind,
+                set: bound.set,
+                column: bound.column,
+                value: bound.value,
+            })?;
         }
         Ok(found)
     }

@@ -272,15 +272,6 @@ fn columns_fault(before: &Carried, r: &Record) -> Option<u8>
 
 // RHS and RANGES
 
-/// Whether a pair that counts, or an earlier one of the line, names the row.
-fn is_repeated(section: Section, before: &Carried, earlier: &[&[u8]], row: &[u8]) -> bool
-    requires { HasPairs section }
-    ensures { result
-        ≡ names_row (counting_pairs section before.now ++ pairs_of (words earlier.now)) row.now }
-{
-    before.pairs(section).pairs().has(row) || names_row(earlier, row)
-}
-
 fn pair_fault(
     section: Section,
     before: &Carried,
@@ -297,7 +288,7 @@ fn pair_fault(
     if counts && !has_row(before, row) {
         return Some(5);
     }
-    if counts && is_repeated(section, before, earlier, row) {
+    if counts && (before.pairs(section).pairs().has(row) || names_row(earlier, row)) {
         return Some(7);
     }
     if number(value).is_none() {

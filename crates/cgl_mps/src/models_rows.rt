@@ -1,6 +1,6 @@
 //! The rows that the records of a deck mean.
 
-ghost use Rattle.std.specs.Prelude.{◌≡◌, ◌∷◌, ◌++◌, [], IfOk, OnOk, map};
+ghost use Rattle.std.specs.Prelude.{◌≡◌, IfOk, map};
 ghost use Rattle.cgl_mps.specs.Sections.{rows, counting_pairs};
 ghost use Rattle.cgl_mps.specs.Models.{value_at, row_of};
 ghost use Rattle.cgl_mps.specs.Carried.{HasPairs};
@@ -9,7 +9,7 @@ use crate::carried::Carried;
 use crate::models::copied_name;
 use crate::models_bounds::zero;
 use crate::numbers::number;
-use crate::record::{Record, Section};
+use crate::record::Section;
 use crate::sections::row_in;
 use cgl_model::{Row, RowKind, Seq};
 use cgl_num::{Dec, Memory};
@@ -37,26 +37,18 @@ fn row_of(alloc: Global, before: &Carried, kind: RowKind, name: &[u8]) -> Result
     })
 }
 
-/// Appends the row that a line says, where it is a data line of ROWS.
-fn push_row(alloc: Global, found: &mut Seq<Row>, before: &Carried, r: &Record) -> Result<(), Memory>
-    ensures { OnOk result (found.new
-        ≡ found.old ++ map (row_of before.now) (rows (r.now ∷ []))) }
-{
-    if r.is_header() || !Section::Rows.is(r.section()) {
-        return Ok(());
-    }
-    match row_in(r.fields()) {
-        Some((kind, name)) => found.push(row_of(alloc, before, kind, name)?),
-        None => Ok(()),
-    }
-}
-
 pub(crate) fn rows_of(alloc: Global, before: &Carried) -> Result<Seq<Row>, Memory>
     ensures { IfOk result (λ found. found ≡ map (row_of before.now) (rows before.now)) }
 {
     let mut found = Seq::new(alloc);
     for r in before.records() {
-        push_row(alloc, &mut found, before, r)?;
+        if r.is_header() || !Section::Rows.is(r.section()) {
+            continue;
+        }
+        let Some((kind, name)) = row_in(r.fields()) else {
+            continue;
+        };
+        found.push(row_of(alloc, before, kind, name)?)?;
     }
     Ok(found)
 }
