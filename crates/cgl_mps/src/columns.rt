@@ -5,7 +5,7 @@ ghost use Rattle.cgl_num.specs.Text.{is_one_of};
 ghost use Rattle.cgl_num.specs.Seen.{words};
 ghost use Rattle.cgl_mps.specs.Sections.{pairs_of};
 ghost use Rattle.cgl_mps.specs.Faults.{names_row};
-ghost use Rattle.cgl_mps.specs.Carried.{after_line, after_marker, after_more, all_of, begun, is_current, no_columns, own_pairs, with_pairs};
+ghost use Rattle.cgl_mps.specs.Carried.{after_line, after_marker, after_more, all_of, begun, is_current, no_columns, own_pairs};
 
 use crate::counts::pair_count;
 use crate::pairs::Pairs;
@@ -30,15 +30,6 @@ impl<'a> Model for ReadColumn<'a> {
     ghost Value = { Said };
 
     ghost view = { λ it. record { name = it.name.now; marked = it.marked; pairs = it.pairs } };
-}
-
-impl<'a> ReadColumn<'a> {
-    /// Takes in the pairs on one more of its lines.
-    fn push_fields(&mut self, fields: &[&'a [u8]]) -> Result<(), Memory>
-        ensures { OnOk result (self.new ≡ with_pairs (pairs_of (words fields.now)) self.old) }
-    {
-        self.pairs.push_fields(fields)
-    }
 }
 
 /// The columns that have ended, with their names, the one that goes on, the word of the last
@@ -136,7 +127,7 @@ impl<'a> ReadColumns<'a> {
         };
         self.count = count;
         match &mut self.current {
-            Some(column) => column.push_fields(fields),
+            Some(column) => column.pairs.push_fields(fields),
             None => Ok(()),
         }
     }

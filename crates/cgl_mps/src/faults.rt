@@ -58,17 +58,11 @@ fn needs(section: Section, before: &[Record]) -> bool
     }
 }
 
-fn is_behind(section: Section, h: &Record) -> bool
-    ensures { result ≡ is_behind section h.now }
-{
-    h.is_header() && rank(section) < rank(h.section())
-}
-
 fn some_behind(section: Section, before: &[Record]) -> bool
     ensures { result ≡ list_any (is_behind section) before.now }
 {
     for h in before {
-        if is_behind(section, h) {
+        if h.is_header() && rank(section) < rank(h.section()) {
             return true;
         }
     }

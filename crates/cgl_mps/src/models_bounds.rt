@@ -2,7 +2,7 @@
 
 ghost use Rattle.std.specs.Prelude.{◌≡◌, ◌&&◌, pos, if◌then◌else◌, None, Some};
 ghost use Rattle.std.specs.List.{list_any};
-ghost use Rattle.cgl_num.specs.NumberText.{whole, finite};
+ghost use Rattle.cgl_num.specs.NumberText.{whole};
 ghost use Rattle.cgl_mps.specs.Models.{makes_integer, lower_by, upper_by, is_upper, value_in, is_below_zero, lower_of, upper_of};
 
 use crate::bound::Bound;
@@ -54,22 +54,13 @@ fn upper_by(kind: BoundKind, value: Option<Dec>) -> Option<Option<Dec>>
     }
 }
 
-fn finite(value: Limit) -> Option<Dec>
-    ensures { result ≡ finite (Some value) }
-{
-    match value {
-        Limit::Finite(d) => Some(d),
-        Limit::Plus | Limit::Minus => None,
-    }
-}
-
 /// The bound's value, where it is finite.
 fn value_in(b: &Bound) -> Option<Dec>
     ensures { result ≡ value_in b.now }
 {
-    match limit_of(b.value) {
-        Some(value) => finite(value),
-        None => None,
+    match limit_of(b.value)? {
+        Limit::Finite(d) => Some(d),
+        Limit::Plus | Limit::Minus => None,
     }
 }
 
@@ -91,17 +82,11 @@ fn is_below_zero(value: Option<Dec>) -> bool
     }
 }
 
-fn is_negative_upper(b: &Bound) -> bool
-    ensures { result ≡ (is_upper b.now.kind && is_below_zero (value_in b.now)) }
-{
-    is_upper(b.kind) && is_below_zero(value_in(b))
-}
-
 fn has_negative_upper(bounds: &[Bound]) -> bool
     ensures { result ≡ list_any (λ b. is_upper b.kind && is_below_zero (value_in b)) bounds.now }
 {
     for b in bounds {
-        if is_negative_upper(b) {
+        if is_upper(b.kind) && is_below_zero(value_in(b)) {
             return true;
         }
     }

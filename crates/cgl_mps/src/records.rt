@@ -62,13 +62,6 @@ fn section_named(name: &[u8]) -> Section
     Section::Unknown
 }
 
-/// Whether the line, with these fields, is a header.
-fn is_header(line: &[u8], fields: &[&[u8]]) -> bool
-    ensures { result ≡ (not (begins_blank line.now) && not (no_field (words fields.now))) }
-{
-    !begins_blank(line) && !fields.is_empty()
-}
-
 /// The section in which a line with these fields stands, after a line in the section.
 fn section_after(section: Section, header: bool, fields: &[&[u8]]) -> Section
     ensures { result ≡ (if header then section_named (first_word (words fields.now)) else section) }
@@ -91,7 +84,7 @@ pub(crate) fn record_of<'a>(
     let Ok(fields) = kept_fields(alloc, line) else {
         return Err(Memory);
     };
-    let header = is_header(line, fields.as_slice());
+    let header = !begins_blank(line) && !fields.is_empty();
     let section = section_after(section, header, fields.as_slice());
     Ok(Record {
         line: n,

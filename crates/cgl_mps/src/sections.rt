@@ -1,8 +1,8 @@
 //! What one record, or a list of records, says.
 
-ghost use Rattle.std.specs.Prelude.{◌≡◌, ◌≤◌, ◌&&◌, length, option_map};
+ghost use Rattle.std.specs.Prelude.{◌≡◌, ◌≤◌, length, option_map};
 ghost use Rattle.cgl_num.specs.Text.{is_one_of};
-ghost use Rattle.cgl_mps.specs.Records.{same_section, has_header};
+ghost use Rattle.cgl_mps.specs.Records.{has_header};
 ghost use Rattle.cgl_mps.specs.Sections.{sense_names, sense_in, row_kind, row_in, is_marker, pairs_of, rest, entry_pairs, set_pairs, needs_value, bound_with, bound_in, set_in, same_set};
 ghost use Rattle.cgl_mps.specs.Faults.{names_row};
 ghost use Rattle.cgl_num.specs.Seen.{word, words};
@@ -13,19 +13,12 @@ use crate::record::{BoundKind, Record, Section, field};
 use cgl_model::RowKind;
 use cgl_num::text::same_bytes;
 
-/// Whether the record is the header of the section.
-fn is_header_of(section: Section, r: &Record) -> bool
-    ensures { result ≡ (r.now.header && same_section section r.now.section) }
-{
-    r.is_header() && section.is(r.section())
-}
-
 /// Whether the section's header stands among the records.
 pub(crate) fn has_header(section: Section, records: &[Record]) -> bool
     ensures { result ≡ has_header section records.now }
 {
     for r in records {
-        if is_header_of(section, r) {
+        if r.is_header() && section.is(r.section()) {
             return true;
         }
     }
