@@ -58,28 +58,16 @@ fn needs(section: Section, before: &[Record]) -> bool
     }
 }
 
-fn some_behind(section: Section, before: &[Record]) -> bool
-    ensures { result ≡ list_any (is_behind section) before.now }
+fn is_misplaced(before: &[Record], r: &Record) -> bool
+    ensures { result ≡ is_misplaced before.now r.now }
 {
+    let section = r.section();
     for h in before {
         if h.is_header() && rank(section) < rank(h.section()) {
             return true;
         }
     }
-    false
-}
-
-fn is_misplaced(before: &[Record], r: &Record) -> bool
-    ensures { result ≡ is_misplaced before.now r.now }
-{
-    let section = r.section();
-    if some_behind(section, before) {
-        return true;
-    }
-    if has_header(section, before) {
-        return true;
-    }
-    !needs(section, before)
+    has_header(section, before) || !needs(section, before)
 }
 
 fn is_sense_header(r: &Record) -> bool

@@ -1,9 +1,9 @@
 //! The model that the records of a deck mean.
 
-ghost use Rattle.std.specs.Prelude.{◌≡◌, IfOk, [], ◌∷◌, codes, false, filter_map, option_map, unwrap_or};
+ghost use Rattle.std.specs.Prelude.{◌≡◌, IfOk, [], ◌∷◌, codes, filter_map, option_map};
 ghost use Rattle.std.specs.List.{list_any};
 ghost use Rattle.cgl_num.specs.Text.{is_one_of};
-ghost use Rattle.cgl_mps.specs.Sections.{sense_in, senses};
+ghost use Rattle.cgl_mps.specs.Sections.{senses};
 ghost use Rattle.cgl_mps.specs.Models.{last_or, name_in, model_of};
 ghost use Rattle.cgl_num.specs.Seen.{word};
 
@@ -48,23 +48,15 @@ fn name_of<'a>(records: &[Record<'a>]) -> &'a [u8]
     name
 }
 
-fn is_maximised(r: &Record) -> bool
-    ensures { result
-        ≡ unwrap_or
-        (option_map (is_one_of (codes "MAX" ∷ codes "MAXIMIZE" ∷ [])) (sense_in r.now)) false }
-{
-    match sense_in(r) {
-        Some(sense) => same_bytes(sense, b"MAX") || same_bytes(sense, b"MAXIMIZE"),
-        None => false,
-    }
-}
-
 fn maximises(records: &[Record]) -> bool
     ensures { result
         ≡ list_any (is_one_of (codes "MAX" ∷ codes "MAXIMIZE" ∷ [])) (senses records.now) }
 {
     for r in records {
-        if is_maximised(r) {
+        let Some(sense) = sense_in(r) else {
+            continue;
+        };
+        if same_bytes(sense, b"MAX") || same_bytes(sense, b"MAXIMIZE") {
             return true;
         }
     }

@@ -82,28 +82,18 @@ fn is_below_zero(value: Option<Dec>) -> bool
     }
 }
 
-fn has_negative_upper(bounds: &[Bound]) -> bool
-    ensures { result ≡ list_any (λ b. is_upper b.kind && is_below_zero (value_in b)) bounds.now }
-{
-    for b in bounds {
-        if is_upper(b.kind) && is_below_zero(value_in(b)) {
-            return true;
-        }
-    }
-    false
-}
-
 /// The lower bound where no record sets it.
 fn lower_unset(bounds: &[Bound]) -> Option<Dec>
     ensures { result
         ≡ (if list_any (λ b. is_upper b.kind && is_below_zero (value_in b)) bounds.now then None
         else Some (whole (pos 0))) }
 {
-    if has_negative_upper(bounds) {
-        None
-    } else {
-        Some(zero())
+    for b in bounds {
+        if is_upper(b.kind) && is_below_zero(value_in(b)) {
+            return None;
+        }
     }
+    Some(zero())
 }
 
 #[tactic(auto, using(crate::proofs::BoundLaws::last_or_set))]

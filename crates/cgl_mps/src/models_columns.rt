@@ -12,34 +12,22 @@ use crate::models_bounds::{lower_of, makes_integer, upper_of};
 use crate::numbers::number;
 use crate::pairs::Pair;
 use cgl_model::{Column, Entries, Seq};
+use cgl_num::Memory;
 use cgl_num::text::Names;
-use cgl_num::{Dec, Memory};
 use std::alloc::Global;
-
-fn entry_of(names: &Names, row: &[u8], value: &[u8]) -> Result<Option<(u32, Dec)>, Memory>
-    ensures { IfOk result (λ e. e ≡ entry_of names.now (row.now, value.now)) }
-{
-    let Some(i) = names.find(row) else {
-        return Ok(None);
-    };
-    let Some(d) = number(value) else {
-        return Ok(None);
-    };
-    let Ok(i) = u32::try_from(i) else {
-        return Err(Memory);
-    };
-    Ok(Some((i, d)))
-}
 
 fn entries_of(alloc: Global, names: &Names, pairs: &[Pair]) -> Result<Entries, Memory>
     ensures { IfOk result (λ entries. entries ≡ filter_map (entry_of names.now) pairs.now) }
 {
     let mut entries = Entries::new(alloc);
     for pair in pairs {
-        let Some(entry) = entry_of(names, pair.row, pair.value)? else {
+        let (Some(place), Some(value)) = (names.find(pair.row), number(pair.value)) else {
             continue;
         };
-        entries.push(entry)?;
+        let Ok(place) = u32::try_from(place) else {
+            return Err(Memory);
+        };
+        entries.push((place, value))?;
     }
     Ok(entries)
 }
