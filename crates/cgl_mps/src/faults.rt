@@ -1,16 +1,13 @@
 //! The first fault of a line, after the records before it.
 
-ghost use Rattle.std.specs.Prelude.{◌≡◌, ◌∷◌, ◌++◌, ◌+◌, ◌^◌, ◌≤◌, [], Some, bytes_eq, false, is_none, length, nat_le, nat_lt, not, option_map, true, unwrap_or};
-ghost use Rattle.std.specs.List.{list_any};
-ghost use Rattle.cgl_num.specs.NumberText.{is_number, limit};
-ghost use Rattle.cgl_num.specs.Text.{is_one_of, lines_of};
+ghost use Rattle.std.specs.Prelude.{◌≡◌, ◌∷◌, ◌+◌, ◌^◌, ◌≤◌, [], Some, false, length, nat_lt, not, option_map};
+ghost use Rattle.cgl_num.specs.Text.{lines_of};
 ghost use Rattle.cgl_mps.specs.Decode.{deck_limits};
-ghost use Rattle.cgl_mps.specs.declared.record.Section.TheVariants.{Bounds, Sense};
-ghost use Rattle.cgl_mps.specs.Sections.{bound_in, counting_pairs, counts_after, marker, pairs_of, row_names, senses};
+ghost use Rattle.cgl_mps.specs.declared.record.Section.TheVariants.{Sense};
+ghost use Rattle.cgl_mps.specs.Sections.{pairs_of, senses};
 ghost use Rattle.cgl_num.specs.Conditions.{first_kind};
-ghost use Rattle.cgl_mps.specs.Faults.{bound_conditions, column_conditions, columns_conditions, conditions, data_conditions, each_pair, entry_conditions, fault_after, header_conditions, is_header_form, is_long, is_marker_form, is_misplaced, is_split, is_value_of, names_row, needs, no_word, pair_conditions, rank, row_conditions, sense_conditions, set_conditions, takes, value_conditions};
+ghost use Rattle.cgl_mps.specs.Faults.{bound_conditions, column_conditions, columns_conditions, conditions, data_conditions, each_pair, entry_conditions, fault_after, header_conditions, is_header_form, is_long, is_marker_form, is_misplaced, is_split, is_value_of, needs, no_word, pair_conditions, rank, row_conditions, sense_conditions, set_conditions, takes, value_conditions};
 ghost use Rattle.cgl_num.specs.Seen.{word, words};
-ghost use Rattle.cgl_mps.specs.Found.{has_sense, is_behind};
 ghost use Rattle.cgl_mps.specs.Carried.{HasPairs};
 
 use crate::bound::Bound;
