@@ -4,7 +4,7 @@ use Rattle.std.proofs.Math.Numerals.{add-one}
 use Rattle.std.proofs.Math.Seq.{drop-cons}
 use Rattle.std.proofs.Math.ListN.{drop_of_length-le}
 use Rattle.std.proofs.lemmas.List.{append_assoc}
-use Rattle.std.specs.List.{list_any, cons_option}
+use Rattle.std.specs.List.{list_any}
 use Rattle.cgl_num.specs.NumberText.{Word}
 use Rattle.cgl_mps.specs.Sections.{Pair}
 use Rattle.cgl_mps.specs.Models.{last_or, value_for}
@@ -48,21 +48,6 @@ passed_turn p xs i x here whole below is passes so_far = sym (ap (list_any p) (t
 
 pub none_in : {X : Type 0} (p : X → Bool) (xs : List X) (i : ℕ) (whole : Bool) → length xs ≤ i → list_any p (drop i xs) ≡ whole → false ≡ whole
 none_in p xs i whole past so_far = sym (ap (list_any p) (drop_of_length-le xs past)) ∙ so_far
-
-any_option : {X : Type 0} (p : X → Bool) (o : Option X) (l : List X) → list_any p (cons_option o l) ≡ (unwrap_or (option_map p o) false || list_any p l)
-any_option p None l = refl
-any_option p (Some x) l = refl
-
-pub any_turn : {A X : Type 0} (p : X → Bool) (f : A → Option X) (xs : List A) (i : ℕ) (x : A) (here whole : Bool)
-    → i < length xs → x ≡ get_or xs i x → unwrap_or (option_map p (f x)) false ≡ here → list_any p (filter_map f (drop i xs)) ≡ whole → (here || list_any p (filter_map f (drop (i + 1) xs))) ≡ whole
-any_turn p f xs i x here whole below is passes so_far =
-    sym (ap (λ l. list_any p (filter_map f l)) (the_rest xs i x below is)
-    ∙ any_option p (f x) (filter_map f (drop (i + 1) xs))
-    ∙ ap (λ b. b || list_any p (filter_map f (drop (i + 1) xs))) passes)
-    ∙ so_far
-
-pub none_passed : {A X : Type 0} (p : X → Bool) (f : A → Option X) (xs : List A) (i : ℕ) (whole : Bool) → length xs ≤ i → list_any p (filter_map f (drop i xs)) ≡ whole → false ≡ whole
-none_passed p f xs i whole past so_far = sym (ap (λ l. list_any p (filter_map f l)) (drop_of_length-le xs past)) ∙ so_far
 
 -- the value of the first pair that names the row
 
