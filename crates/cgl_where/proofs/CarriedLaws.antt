@@ -1,11 +1,11 @@
 -- What a reader carries stands for the records so far.
 use Rattle.std.proofs.Common.{◌≡◌, ◌≢◌, refl, sym, ap, ap₂, ◌∙◌, subst, arith, ℕ, zero, suc, ◌+◌, ◌^◌, ◌<◌, ◌≤◌, ◌==◌, nat_lt, Bool, true, false, not, cond, ◌||◌, List, [], ◌∷◌, ◌++◌, append-nil, map, find, length, drop, get_or, bytes_eq, Option, Some, None, is_some, is_none, option_and_then, Result, Ok, Err}
-use Rattle.std.specs.Prelude.{unsigned_abs, unwrap_or, slice_get, position, slice_set}
+use Rattle.std.specs.Prelude.{replicate, unsigned_abs, unwrap_or, slice_get, position, slice_set}
 use Rattle.std.specs.Option.{option_or}
 use Rattle.std.specs.Result.{IfOk}
-use Rattle.std.specs.List.{list_any, position_or_len, cons_option}
+use Rattle.std.specs.List.{list_any, cons_option}
 use Rattle.std.proofs.lemmas.Option.{unwrap_or-slice_get}
-use Rattle.std.proofs.lemmas.List.{drop_all, get_or-set_same, get_or-set_other, length-map, length-set}
+use Rattle.std.proofs.lemmas.List.{drop_all, get_or-set_same, get_or-set_other, length-map, length-replicate, length-set}
 use Rattle.std.proofs.lemmas.List.Elements.{filter_map-append}
 use Rattle.std.proofs.lemmas.List.Folds.{list_any-append, find-append}
 use Rattle.std.proofs.lemmas.List.Quantifiers.{position-Some}
@@ -16,12 +16,14 @@ use Rattle.cgl_num.specs.Fraction.{Fraction}
 use Rattle.cgl_num.specs.NumberText.{Word}
 use Rattle.cgl_model.specs.declared.mip.Column.{Column}
 use denote.Ref.{Bor}
-use Rattle.cgl_num.specs.Text.{lines_of, is_over, most_bytes}
+use Rattle.cgl_num.specs.Text.{lines_of, kept_fields, no_field, is_over, most_bytes}
+use Rattle.cgl_where.proofs.ValueLaws.{some_left}
 use Rattle.cgl_model.specs.declared.mip.Model.{Model}
 use Rattle.cgl_model.specs.Point.{Point}
 use Rattle.cgl_where.specs.Reading.{read_from}
 use Rattle.cgl_num.specs.Seen.{words}
-use Rattle.cgl_where.proofs.ReadingLaws.{line_passes, line_stops, over_at, point_reads, within_limits}
+use Rattle.cgl_num.proofs.NameLaws.{is_found}
+use Rattle.cgl_where.proofs.ReadingLaws.{line_passes, line_stops, point_reads, within_limits}
 use Rattle.cgl_where.proofs.FrontLaws.{fault_over}
 use Rattle.cgl_where.specs.declared.carried.Carried.{Carried}
 use Rattle.cgl_where.specs.PointValue.{value}
@@ -73,21 +75,12 @@ grown_fine fs d f all is =
 
 -- ---- the number of a column
 
-passes_case : (n m : ℕ) (b c : Bool) → nat_lt n m ≡ c → nat_lt (cond (not b) (1 + n) 0) (suc m) ≡ (b || c)
-passes_case n m true c e = grind (arith, nat_tests)
-passes_case n m false true e = grind (arith, nat_tests)
-passes_case n m false false e = grind (arith, nat_tests)
-
-passes : {X : Type 0} (p : X → Bool) (xs : List X) → nat_lt (position_or_len p xs) (length xs) ≡ list_any p xs
-passes p [] = refl
-passes p (x ∷ xs) = passes_case (position_or_len p xs) (length xs) (p x) (list_any p xs) (passes p xs)
-
-none_where : (b : Bool) (n : ℕ) → is_none (cond b (Some n) None) ≡ not b
-none_where true n = refl
-none_where false n = refl
+not_some : {X : Type 0} (o : Option X) → not (is_some o) ≡ is_none o
+not_some None = refl
+not_some (Some x) = refl
 
 no_position : {X : Type 0} (p : X → Bool) (xs : List X) → not (list_any p xs) ≡ is_none (position p xs)
-no_position p xs = ap not (sym (passes p xs)) ∙ sym (none_where (nat_lt (position_or_len p xs) (length xs)) (position_or_len p xs))
+no_position p xs = ap not (sym (is_found p xs)) ∙ not_some (position p xs)
 
 some_of_none : {X : Type 0} (o : Option X) → is_none o ≡ false → (x : X) × (o ≡ Some x)
 some_of_none None e = cc
@@ -250,23 +243,17 @@ carries_more m before old new r c none t =
 
 -- ---- before the first record
 
-abbrev pub unnamed : Column → Option Fraction
-unnamed c = None
+none_named : (n : ℕ) (o : Option ℕ) → named_at (replicate n None) o ≡ None
+none_named n None = refl
+none_named zero (Some k) = refl
+none_named (suc n) (Some zero) = refl
+none_named (suc n) (Some (suc k)) = none_named n (Some k)
 
-none_at : (columns : List Column) (k : ℕ) → unwrap_or (slice_get (map unnamed columns) k) None ≡ None
-none_at [] k = refl
-none_at (c ∷ columns) zero = refl
-none_at (c ∷ columns) (suc k) = none_at columns k
-
-none_named : (columns : List Column) (o : Option ℕ) → named_at (map unnamed columns) o ≡ None
-none_named columns None = refl
-none_named columns (Some k) = none_at columns k
-
-pub carries_none : (m : Model) (carried : Carried) → carried.named.items ≡ map unnamed m.cols → carried.values.items ≡ [] → carried.denominator ≡ 1 → Carries m [] carried
+pub carries_none : (m : Model) (carried : Carried) → carried.named.items ≡ replicate (length m.cols) None → carried.values.items ≡ [] → carried.denominator ≡ 1 → Carries m [] carried
 carries_none m carried named values_are one =
     record {
-      counted = ap length named ∙ length-map m.cols unnamed;
-      named_are = λ name. ap (λ l. named_at l (column_number m name)) named ∙ none_named m.cols (column_number m name);
+      counted = ap length named ∙ length-replicate (length m.cols) None;
+      named_are = λ name. ap (λ l. named_at l (column_number m name)) named ∙ none_named (length m.cols) (column_number m name);
       known = λ name. refl;
       values_are = values_are;
       common = one;
@@ -306,29 +293,24 @@ pub record Reads (bytes : List ℕ) (m : Model) (n : ℕ) (lines : List (List �
 pub reads_first : (bytes : List ℕ) (m : Model) (lines : List (Bor (List ℕ))) (carried : Carried) → words lines ≡ lines_of bytes → Carries m [] carried → Reads bytes m 1 (words lines) carried
 reads_first bytes m lines carried is c = record { before = []; carries = c; rest = point_reads bytes m lines is }
 
-pub reads_next : (bytes : List ℕ) (m : Model) (lines : List (Bor (List ℕ))) (i : ℕ) (line empty : Bor (List ℕ)) (r : Record) (over : Bool) (kind : Option ℕ) (old new : Carried)
-    → line ≡ get_or lines i empty → i < length lines → r ≡ record_of (i + 1) line.now → over ≡ is_over most_bytes bytes (i + 1) → kind ≡ None
-    → Reads bytes m (i + 1) (words (drop i lines)) old → FollowsLine m r over kind old new → Reads bytes m (i + 1 + 1) (words (drop (i + 1) lines)) new
-reads_next bytes m lines i line empty r over kind old new at lt is over_is none so_far follows =
-    let step = follows bytes so_far.before (over_at bytes i line.now r over is over_is) so_far.carries in
+pub reads_next : (bytes : List ℕ) (m : Model) (lines : List (Bor (List ℕ))) (i : ℕ) (empty : Bor (List ℕ)) (over : Bool) (kind : Option ℕ) (old new : Carried)
+    → i < length lines → over ≡ is_over most_bytes bytes (i + 1) → kind ≡ None
+    → Reads bytes m (i + 1) (words (drop i lines)) old → FollowsLine m (record_of (i + 1) (get_or lines i empty).now) over kind old new
+    → Reads bytes m (i + 1 + 1) (words (drop (i + 1) lines)) new
+reads_next bytes m lines i empty over kind old new lt over_is none so_far follows =
+    let step = follows bytes so_far.before over_is so_far.carries in
     record {
-      before = so_far.before ++ kept (r ∷ []);
+      before = so_far.before ++ kept (record_of (i + 1) (get_or lines i empty).now ∷ []);
       carries = step.1 none;
-      rest =
-          line_passes bytes m lines i line empty so_far.before (so_far.before ++ kept (r ∷ [])) (point_of bytes m) at lt
-          (ap (fault_after most_bytes bytes m so_far.before) (sym is) ∙ sym step.0 ∙ none)
-          (ap (λ q. so_far.before ++ kept (q ∷ [])) is)
-          so_far.rest;
+      rest = line_passes bytes m lines i empty so_far.before (point_of bytes m) lt (sym step.0 ∙ none) so_far.rest;
     }
 
-pub reads_fault : (bytes : List ℕ) (m : Model) (lines : List (Bor (List ℕ))) (i : ℕ) (line empty : Bor (List ℕ)) (r : Record) (over : Bool) (kind : Option ℕ) (found : ℕ) (old new : Carried)
-    → line ≡ get_or lines i empty → i < length lines → r ≡ record_of (i + 1) line.now → over ≡ is_over most_bytes bytes (i + 1) → kind ≡ Some found
-    → Reads bytes m (i + 1) (words (drop i lines)) old → FollowsLine m r over kind old new → point_of bytes m ≡ Fault (i + 1) found
-reads_fault bytes m lines i line empty r over kind found old new at lt is over_is some so_far follows =
-    let step = follows bytes so_far.before (over_at bytes i line.now r over is over_is) so_far.carries in
-    line_stops bytes m lines i line empty so_far.before found (point_of bytes m) at lt
-    (ap (fault_after most_bytes bytes m so_far.before) (sym is) ∙ sym step.0 ∙ some)
-    so_far.rest
+pub reads_fault : (bytes : List ℕ) (m : Model) (lines : List (Bor (List ℕ))) (i : ℕ) (empty : Bor (List ℕ)) (over : Bool) (kind : Option ℕ) (found : ℕ) (old new : Carried)
+    → i < length lines → over ≡ is_over most_bytes bytes (i + 1) → kind ≡ Some found
+    → Reads bytes m (i + 1) (words (drop i lines)) old → FollowsLine m (record_of (i + 1) (get_or lines i empty).now) over kind old new → point_of bytes m ≡ Fault (i + 1) found
+reads_fault bytes m lines i empty over kind found old new lt over_is some so_far follows =
+    let step = follows bytes so_far.before over_is so_far.carries in
+    line_stops bytes m lines i empty so_far.before found (point_of bytes m) lt (sym step.0 ∙ some) so_far.rest
 
 pub reads_ready : (bytes : List ℕ) (m : Model) (n : ℕ) (lines : List (List ℕ)) (carried : Carried) → Reads bytes m n lines carried
     → IsReady (map (λ c. carried_value m carried.named.items c.name) m.cols)
@@ -344,6 +326,13 @@ reads_last bytes m n lines i carried end reads x is =
     ∙ ap Values (sym is)
 
 -- ---- a line
+
+no_words : (fields : List (Bor (List ℕ))) → no_field (words fields) ≡ (length fields == 0)
+no_words [] = refl
+no_words (field ∷ fields) = sym (some_left (length fields))
+
+pub kept_is : (fields : List (Bor (List ℕ))) (line : List ℕ) (n : ℕ) (empty : Bool) → words fields ≡ kept_fields line → empty ≡ (length fields == 0) → is_kept (record_of n line) ≡ not empty
+kept_is fields line n empty is empty_is = ap (λ w. not (no_field w)) (sym is) ∙ ap not (no_words fields ∙ sym empty_is)
 
 pub follows_over : (m : Model) (r : Record) (over : Bool) (old new : Carried) → over ≡ true → FollowsLine m r over (Some 12) old new
 follows_over m r over old new met bytes before is c = (sym (fault_over most_bytes bytes m before r (sym is ∙ met)), (λ none. cc))

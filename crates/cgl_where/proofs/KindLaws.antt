@@ -1,11 +1,14 @@
 -- The first kind of fault of a line's value, from what the code finds out in turn.
-use Rattle.std.proofs.Common.{◌≡◌, ◌≢◌, subst, ◌<◌, ◌^◌, nat_lt, refl, sym, ap, ◌∙◌, arith, ℕ, ◌==◌, Bool, true, false, not, cond, List, map, length, Option, Some, None, is_some, is_none, option_and_then}
-use Rattle.std.specs.Prelude.{unsigned_abs}
+use Rattle.std.proofs.Common.{◌≡◌, sym, ap, ap₂, ◌∙◌, subst, arith, ℕ, ◌<◌, ◌≤◌, ◌^◌, ◌==◌, nat_lt, Bool, true, false, not, cond, List, [], length, get_or, Option, Some, None, is_some, is_none, option_and_then}
+use Rattle.std.specs.Prelude.{option_map, slice_get, unsigned_abs, unwrap_or}
+use denote.Ref.{Bor}
 use Rattle.std.specs.List.{list_any}
-use Rattle.std.proofs.lemmas.List.{length-map}
+use Rattle.std.proofs.lemmas.List.{get_or_read, length-map}
+use Rattle.std.proofs.lemmas.Option.{slice_get-get_or, slice_get-map, unwrap_or-slice_get}
 use Rattle.std.proofs.lemmas.Bool.Decides.{nat_tests}
 use Rattle.cgl_num.specs.Fraction.{Fraction}
 use Rattle.cgl_num.specs.Conditions.{first_kind}
+use Rattle.cgl_num.specs.Seen.{word, words}
 use Rattle.cgl_model.specs.declared.mip.Model.{Model}
 use Rattle.cgl_where.specs.declared.carried.Carried.{Carried}
 use Rattle.cgl_where.specs.PointValue.{value}
@@ -13,79 +16,51 @@ use Rattle.cgl_where.specs.PointFile.{Record, field, lcm}
 use Rattle.cgl_where.proofs.CarriedLaws.{number_within}
 use Rattle.cgl_where.specs.Carried.{column_number, named_at, grown_denominator, carried_conditions, is_wide}
 
-kind_here : (b : Bool) (kind : ℕ) (later : Option ℕ) → b ≡ true → Some kind ≡ cond b (Some kind) later
-kind_here true kind later e = refl
-kind_here false kind later e = cc
+-- ---- the two fields of a line
 
-kind_later : (b : Bool) (kind : ℕ) (found later : Option ℕ) → b ≡ false → found ≡ later → found ≡ cond b (Some kind) later
-kind_later true kind found later e is = cc
-kind_later false kind found later e is = is
+counted : (n : ℕ) → 2 ≤ n → n < 3 → not (n == 2) ≡ false
+counted n least most = grind (arith, nat_tests)
 
-not_two : (n : ℕ) → n ≢ 2 → not (n == 2) ≡ true
-not_two n h = grind (arith, nat_tests)
+two_fields : (fields : List (Bor (List ℕ))) (r : Record) → r.fields ≡ words fields → 2 ≤ length fields → length fields < 3 → not (length r.fields == 2) ≡ false
+two_fields fields r is least most = ap (λ l. not (length l == 2)) is ∙ ap (λ n. not (n == 2)) (length-map fields word) ∙ counted (length fields) least most
 
-pub miscounted : {X Y : Type 0} (f : X → Y) (parts : List X) (fields : List Y) → map f parts ≡ fields → length parts ≢ 2 → not (length fields == 2) ≡ true
-miscounted f parts fields is h = ap (λ l. not (length l == 2)) (sym is) ∙ ap (λ n. not (n == 2)) (length-map parts f) ∙ not_two (length parts) h
+pub field_at : (fields : List (Bor (List ℕ))) (r : Record) (k : ℕ) (empty : Bor (List ℕ)) → r.fields ≡ words fields → k < length fields → field k r ≡ (get_or fields k empty).now
+field_at fields r k empty is lt =
+    ap (λ l. unwrap_or (slice_get l k) []) is
+    ∙ ap (λ o. unwrap_or o []) (slice_get-map word fields k ∙ ap (option_map word) (slice_get-get_or fields k empty lt))
 
-pub counted : {X Y : Type 0} (f : X → Y) (parts : List X) (fields : List Y) → map f parts ≡ fields → length parts ≡ 2 → not (length fields == 2) ≡ false
-counted f parts fields is two = ap (λ l. not (length l == 2)) (sym is) ∙ ap (λ n. not (n == 2)) (length-map parts f ∙ two)
+-- ---- the kind of the first fault
 
-pub kind_count : (m : Model) (carried : Carried) (r : Record) → not (length r.fields == 2) ≡ true → Some 3 ≡ first_kind (carried_conditions m carried r)
-kind_count m carried r e = kind_here _ 3 _ e
+-- of a value, where its column has none so far
+abbrev pub taken_kind : Carried → Option Fraction → Option ℕ
+taken_kind carried taken =
+    cond (is_none taken) (Some 4) (cond (is_none (option_and_then (grown_denominator carried.values.items carried.denominator) taken)) (Some 13) None)
 
-pub kind_unknown : (m : Model) (carried : Carried) (r : Record) (o : Option ℕ) → not (length r.fields == 2) ≡ false → o ≡ column_number m (field 0 r) → o ≡ None
-    → Some 6 ≡ first_kind (carried_conditions m carried r)
-kind_unknown m carried r o two is none = kind_later _ 3 _ _ two (kind_here _ 6 _ (ap is_none (sym is ∙ none)))
+-- of a line of two fields that names this column and has this value
+abbrev pub value_kind : Carried → Option ℕ → Option Fraction → Option ℕ
+value_kind carried number taken = cond (is_none number) (Some 6) (cond (is_some (named_at carried.named.items number)) (Some 14) (taken_kind carried taken))
 
--- the line has two fields, and names a column of which no value is carried
-pub record IsNew (m : Model) (carried : Carried) (r : Record) : Type 0 where
-  pub two : not (length r.fields == 2) ≡ false
-  pub found : is_none (column_number m (field 0 r)) ≡ false
-  pub unnamed : is_some (named_at carried.named.items (column_number m (field 0 r))) ≡ false
+pub kind_of : (m : Model) (carried : Carried) (fields : List (Bor (List ℕ))) (r : Record) (empty : Bor (List ℕ)) (number : Option ℕ) (taken : Option Fraction)
+    → r.fields ≡ words fields → 2 ≤ length fields → length fields < 3
+    → column_number m (get_or fields 0 empty).now ≡ number → value (get_or fields 1 empty).now ≡ taken
+    → value_kind carried number taken ≡ first_kind (carried_conditions m carried r)
+kind_of m carried fields r empty number taken is least most number_is taken_is =
+    let name : column_number m (field 0 r) ≡ number = ap (column_number m) (field_at fields r 0 empty is (omega (arith, least))) ∙ number_is in
+    let text : value (field 1 r) ≡ taken = ap value (field_at fields r 1 empty is (omega (arith, least))) ∙ taken_is in
+    sym (ap (λ b. cond b (Some 3) (value_kind carried (column_number m (field 0 r)) (value (field 1 r)))) (two_fields fields r is least most)
+    ∙ ap₂ (value_kind carried) name text)
 
-new_kind : (m : Model) (carried : Carried) (r : Record) (kind : Option ℕ) → IsNew m carried r
-    → kind ≡ cond (is_none (value (field 1 r))) (Some 4) (cond (is_none (option_and_then (grown_denominator carried.values.items carried.denominator) (value (field 1 r)))) (Some 13) None)
-    → kind ≡ first_kind (carried_conditions m carried r)
-new_kind m carried r kind new is = kind_later _ 3 _ _ new.two (kind_later _ 6 _ _ new.found (kind_later _ 14 _ _ new.unnamed is))
+pub kind_at : (carried : Carried) (column : ℕ) (at taken : Option Fraction) (b : Bool) → column < length carried.named.items → at ≡ get_or carried.named.items column at → is_some at ≡ b
+    → cond b (Some 14) (taken_kind carried taken) ≡ value_kind carried (Some column) taken
+kind_at carried column at taken b lt is b_is =
+    let named = carried.named.items in
+    let at_is : at ≡ named_at named (Some column) = get_or_read named column at lt is None ∙ sym (unwrap_or-slice_get named column None) in
+    ap (λ p. cond p (Some 14) (taken_kind carried taken)) (sym b_is ∙ ap is_some at_is)
 
-pub is_new : (m : Model) (carried : Carried) (r : Record) (o : Option ℕ) (column : ℕ) (b : Bool) → not (length r.fields == 2) ≡ false
-    → o ≡ column_number m (field 0 r) → o ≡ Some column → b ≡ is_some (named_at carried.named.items (Some column)) → b ≡ false → IsNew m carried r
-is_new m carried r o column b two is some b_is unnamed =
-    let number : column_number m (field 0 r) ≡ Some column = sym is ∙ some in
-    record {
-      two = two;
-      found = ap is_none number;
-      unnamed = ap (λ p. is_some (named_at carried.named.items p)) number ∙ sym b_is ∙ unnamed;
-    }
-
-pub kind_named : (m : Model) (carried : Carried) (r : Record) (o : Option ℕ) (column : ℕ) (b : Bool) → not (length r.fields == 2) ≡ false
-    → o ≡ column_number m (field 0 r) → o ≡ Some column → b ≡ is_some (named_at carried.named.items (Some column)) → b ≡ true → Some 14 ≡ first_kind (carried_conditions m carried r)
-kind_named m carried r o column b two is some b_is named =
-    let number : column_number m (field 0 r) ≡ Some column = sym is ∙ some in
-    kind_later _ 3 _ _ two (kind_later _ 6 _ _ (ap is_none number) (kind_here _ 14 _ (ap (λ p. is_some (named_at carried.named.items p)) number ∙ sym b_is ∙ named)))
-
-pub kind_value : (m : Model) (carried : Carried) (r : Record) (o : Option Fraction) → IsNew m carried r → o ≡ value (field 1 r) → o ≡ None
-    → Some 4 ≡ first_kind (carried_conditions m carried r)
-kind_value m carried r o new is none = new_kind m carried r (Some 4) new (kind_here _ 4 _ (ap is_none (sym is ∙ none)))
-
-kind_grown : (m : Model) (carried : Carried) (r : Record) (kind : Option ℕ) (o : Option Fraction) (taken : Fraction) → IsNew m carried r → o ≡ value (field 1 r) → o ≡ Some taken
-    → kind ≡ cond (is_none (grown_denominator carried.values.items carried.denominator taken)) (Some 13) None → kind ≡ first_kind (carried_conditions m carried r)
-kind_grown m carried r kind o taken new is some at =
-    let here : value (field 1 r) ≡ Some taken = sym is ∙ some in
-    new_kind m carried r kind new (kind_later _ 4 _ _ (ap is_none here)
-    (at ∙ ap (λ v. cond (is_none (option_and_then (grown_denominator carried.values.items carried.denominator) v)) (Some 13) None) (sym here)))
-
-pub kind_fine : (m : Model) (carried : Carried) (r : Record) (o : Option Fraction) (taken : Fraction) (values : List Fraction) (p : Option ℕ) → IsNew m carried r → o ≡ value (field 1 r) → o ≡ Some taken
-    → values ≡ carried.values.items → p ≡ grown_denominator values carried.denominator taken → p ≡ None → Some 13 ≡ first_kind (carried_conditions m carried r)
-kind_fine m carried r o taken values p new is some values_are p_is none =
-    kind_grown m carried r (Some 13) o taken new is some
-    (kind_here _ 13 _ (ap (λ l. is_none (grown_denominator l carried.denominator taken)) (sym values_are) ∙ ap is_none (sym p_is ∙ none)))
-
-pub kind_none : (m : Model) (carried : Carried) (r : Record) (o : Option Fraction) (taken : Fraction) (values : List Fraction) (p : Option ℕ) (d : ℕ) → IsNew m carried r → o ≡ value (field 1 r) → o ≡ Some taken
-    → values ≡ carried.values.items → p ≡ grown_denominator values carried.denominator taken → p ≡ Some d → None ≡ first_kind (carried_conditions m carried r)
-kind_none m carried r o taken values p d new is some values_are p_is some_d =
-    kind_grown m carried r None o taken new is some
-    (kind_later _ 13 _ _ (ap (λ l. is_none (grown_denominator l carried.denominator taken)) (sym values_are) ∙ ap is_none (sym p_is ∙ some_d)) refl)
+pub kind_grown : (carried : Carried) (taken : Fraction) (values : List Fraction) (grown : Option ℕ) (b : Bool) → values ≡ carried.values.items → grown ≡ grown_denominator values carried.denominator taken
+    → is_none grown ≡ b → cond b (Some 13) None ≡ taken_kind carried (Some taken)
+kind_grown carried taken values grown b values_are is b_is =
+    ap (λ p. cond p (Some 13) None) (sym b_is ∙ ap is_none (is ∙ ap (λ l. grown_denominator l carried.denominator taken) values_are))
 
 -- ---- what is taken in
 

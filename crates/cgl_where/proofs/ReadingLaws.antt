@@ -99,37 +99,33 @@ fine_after bytes m before r e so_far =
 
 -- ---- lines as code holds them
 
-next_line : (bytes : List ℕ) (m : Model) (lines : List (Bor (List ℕ))) (i : ℕ) (line d : Bor (List ℕ)) (before : List Record) → line ≡ get_or lines i d → i < length lines
-    → read_from most_bytes bytes m (i + 1) before (words (drop i lines)) ≡ read_from most_bytes bytes m (i + 1) before (line.now ∷ words (drop (i + 1) lines))
-next_line bytes m lines i line d before is lt = ap (λ l. read_from most_bytes bytes m (i + 1) before (words l)) (drop_more lines i d lt ∙ ap (λ x. x ∷ drop (i + 1) lines) (sym is))
+next_line : (bytes : List ℕ) (m : Model) (lines : List (Bor (List ℕ))) (i : ℕ) (empty : Bor (List ℕ)) (before : List Record) → i < length lines
+    → read_from most_bytes bytes m (i + 1) before (words (drop i lines)) ≡ read_from most_bytes bytes m (i + 1) before ((get_or lines i empty).now ∷ words (drop (i + 1) lines))
+next_line bytes m lines i empty before lt = ap (λ l. read_from most_bytes bytes m (i + 1) before (words l)) (drop_more lines i empty lt)
 
-pub line_passes : (bytes : List ℕ) (m : Model) (lines : List (Bor (List ℕ))) (i : ℕ) (line d : Bor (List ℕ)) (before after : List Record) (all : Outcome) → line ≡ get_or lines i d → i < length lines
-    → fault_after most_bytes bytes m before (record_of (i + 1) line.now) ≡ None
-    → after ≡ before ++ kept (record_of (i + 1) line.now ∷ [])
+pub line_passes : (bytes : List ℕ) (m : Model) (lines : List (Bor (List ℕ))) (i : ℕ) (empty : Bor (List ℕ)) (before : List Record) (all : Outcome) → i < length lines
+    → fault_after most_bytes bytes m before (record_of (i + 1) (get_or lines i empty).now) ≡ None
     → read_from most_bytes bytes m (i + 1) before (words (drop i lines)) ≡ all
-    → read_from most_bytes bytes m (i + 1 + 1) after (words (drop (i + 1) lines)) ≡ all
-line_passes bytes m lines i line d before after all is lt none more so_far =
-    let later = words (drop (i + 1) lines) in
-    ap (λ l. read_from most_bytes bytes m (i + 1 + 1) l later) more
-    ∙ ap (λ k. turn k (i + 1) (read_from most_bytes bytes m (i + 1 + 1) (before ++ kept (record_of (i + 1) line.now ∷ [])) later)) (sym none)
-    ∙ sym (next_line bytes m lines i line d before is lt)
+    → read_from most_bytes bytes m (i + 1 + 1) (before ++ kept (record_of (i + 1) (get_or lines i empty).now ∷ [])) (words (drop (i + 1) lines)) ≡ all
+line_passes bytes m lines i empty before all lt none so_far =
+    let after = before ++ kept (record_of (i + 1) (get_or lines i empty).now ∷ []) in
+    ap (λ k. turn k (i + 1) (read_from most_bytes bytes m (i + 1 + 1) after (words (drop (i + 1) lines)))) (sym none)
+    ∙ sym (next_line bytes m lines i empty before lt)
     ∙ so_far
 
-pub line_stops : (bytes : List ℕ) (m : Model) (lines : List (Bor (List ℕ))) (i : ℕ) (line d : Bor (List ℕ)) (before : List Record) (kind : ℕ) (all : Outcome) → line ≡ get_or lines i d → i < length lines
-    → fault_after most_bytes bytes m before (record_of (i + 1) line.now) ≡ Some kind
+pub line_stops : (bytes : List ℕ) (m : Model) (lines : List (Bor (List ℕ))) (i : ℕ) (empty : Bor (List ℕ)) (before : List Record) (kind : ℕ) (all : Outcome) → i < length lines
+    → fault_after most_bytes bytes m before (record_of (i + 1) (get_or lines i empty).now) ≡ Some kind
     → read_from most_bytes bytes m (i + 1) before (words (drop i lines)) ≡ all
     → all ≡ Fault (i + 1) kind
-line_stops bytes m lines i line d before kind all is lt some so_far =
+line_stops bytes m lines i empty before kind all lt some so_far =
+    let after = before ++ kept (record_of (i + 1) (get_or lines i empty).now ∷ []) in
     sym so_far
-    ∙ next_line bytes m lines i line d before is lt
-    ∙ ap (λ k. turn k (i + 1) (read_from most_bytes bytes m (i + 1 + 1) (before ++ kept (record_of (i + 1) line.now ∷ [])) (words (drop (i + 1) lines)))) some
+    ∙ next_line bytes m lines i empty before lt
+    ∙ ap (λ k. turn k (i + 1) (read_from most_bytes bytes m (i + 1 + 1) after (words (drop (i + 1) lines)))) some
 
 pub point_reads : (bytes : List ℕ) (m : Model) (lines : List (Bor (List ℕ))) → words lines ≡ lines_of bytes → read_from most_bytes bytes m 1 [] (words lines) ≡ point_of bytes m
 unfolding point_of
 point_reads bytes m lines is = ap (read_from most_bytes bytes m 1 []) is ∙ sym (reads_alike most_bytes bytes m)
-
-pub over_at : (bytes : List ℕ) (i : ℕ) (line : List ℕ) (r : Record) (over : Bool) → r ≡ record_of (i + 1) line → over ≡ is_over most_bytes bytes (i + 1) → over ≡ is_over most_bytes bytes r.line
-over_at bytes i line r over is e = e ∙ ap (λ (q : Record). is_over most_bytes bytes q.line) (sym is)
 
 pub count_lines : (bytes : List ℕ) (lines : List (Bor (List ℕ))) (found : List (List ℕ)) (n : ℕ) → n ≡ length lines → words lines ≡ found → found ≡ lines_of bytes → n ≡ length (lines_of bytes)
 count_lines bytes lines found n count is all = count ∙ sym (length-map lines (λ (line : Bor (List ℕ)). line.now)) ∙ ap length (is ∙ all)

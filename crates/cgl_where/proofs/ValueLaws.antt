@@ -1,18 +1,17 @@
--- Values: digits that are too many, fractions with denominators above 0.
-use Rattle.std.proofs.Common.{◌≡◌, refl, sym, ap, ap₂, ◌∙◌, arith, ℕ, suc, ◌+◌, ◌-◌, ◌*◌, ◌^◌, ◌<◌, ◌≤◌, ◌==◌, nat_lt, Bool, true, false, cond, ◌&&◌, [], ◌∷◌, length, take, drop, drop-cons, get_or, Some, None, mul-le-mul_right}
-use Rattle.std.specs.List.{list_all}
+-- Values: digits that are too many, and numbers and quotients.
+use Rattle.std.proofs.Common.{◌≡◌, refl, sym, ap, ap₂, ◌∙◌, arith, ℕ, suc, ◌+◌, ◌-◌, ◌*◌, ◌^◌, ◌<◌, ◌≤◌, ◌==◌, nat_lt, Bool, true, false, cond, ◌&&◌, [], ◌∷◌, length, take, drop, drop-cons, get_or, Option, Some, None, mul-le-mul_right}
+use Rattle.std.specs.Prelude.{is_some, option_map, position}
+use Rattle.std.specs.List.{list_all, list_any, position_or_len}
 use Rattle.std.proofs.lemmas.List.{take-append-drop, take_all, take_more}
 use Rattle.std.proofs.lemmas.List.Folds.{list_all_at, list_all_more}
 use Rattle.std.proofs.lemmas.List.Sums.{fold-append}
 use Rattle.std.proofs.lemmas.Bool.Decides.{nat_tests}
-use Rattle.cgl_num.specs.NumberText.{Word, natural, is_digit, is_digits}
+use Rattle.cgl_num.specs.NumberText.{Word, natural, number, is_digit, is_digits}
 use Rattle.cgl_num.proofs.DigitLaws.{digits_from, digits-low}
-use Rattle.cgl_num.proofs.DecimalLaws.{tens_pos, tens_mono}
-use Rattle.std.specs.Prelude.{pos}
-use Rattle.cgl_num.specs.Fraction.{lowest}
-use Rattle.cgl_num.specs.Gcd.{gcd}
+use Rattle.cgl_num.proofs.DecimalLaws.{tens_pos}
+use Rattle.cgl_num.proofs.NameLaws.{is_found}
 use Rattle.cgl_where.specs.Limits.{fitting_natural}
-use Rattle.cgl_where.specs.PointFile.{zero_fraction}
+use Rattle.cgl_where.specs.PointValue.{fraction_of, is_slash, quotient, value}
 
 grows : (a : ℕ) (digits : Word) → a ≤ digits_from a digits
 grows a digits =
@@ -35,20 +34,13 @@ too_large digits i number lt is le =
     let more = grows (10 * natural (take i digits) + (get_or digits i 0 - 48)) (drop (suc i) digits) in
     none_fits digits (is_digits digits) (omega (arith, le, is, more, parted digits i lt))
 
-pub zero_is : lowest (pos 0) (pos 1) ≡ zero_fraction
-unfolding lowest gcd
-zero_is = refl
-
-pub power_within : (k : ℕ) → k < 31 → 10 ^ k ≤ 10 ^ 30
-power_within k lt = tens_mono k 30 (omega (arith, lt))
-
 -- ---- the digits of a number
 
 and_false : (b : Bool) → (b && false) ≡ false
 and_false true = refl
 and_false false = refl
 
-some_left : (n : ℕ) → (suc n == 0) ≡ false
+pub some_left : (n : ℕ) → (suc n == 0) ≡ false
 some_left n = grind (arith, nat_tests)
 
 pub digit_kept : (digits : Word) (i : ℕ) (b : Bool) → i < length digits → b ≡ is_digit (get_or digits i 0) → b ≡ true → list_all is_digit (take i digits) ≡ true
@@ -72,11 +64,31 @@ natural_more digits i number lt is =
     ap (λ n. 10 * n + (get_or digits i 0 - 48)) is
     ∙ sym (ap natural (take_more digits i 0 lt) ∙ fold-append (λ n b. 10 * n + (b - 48)) 0 (take i digits) (get_or digits i 0 ∷ []))
 
-pub natural_fits : (digits : Word) (i number : ℕ) (b : Bool) → b ≡ is_digits digits → b ≡ true → length digits ≤ i → number ≡ natural (take i digits) → number < 10 ^ 36 → Some number ≡ fitting_natural digits
-natural_fits digits i number b is met end value below =
+pub natural_fits : (digits : Word) (i number : ℕ) → true ≡ is_digits digits → length digits ≤ i → number ≡ natural (take i digits) → number < 10 ^ 36 → Some number ≡ fitting_natural digits
+natural_fits digits i number met end value below =
     let all : number ≡ natural digits = value ∙ ap natural (take_all i digits end) in
     let within : nat_lt (natural digits) (10 ^ 36) ≡ true = grind (arith, nat_tests) in
-    ap Some all ∙ sym (ap₂ (λ (p q : Bool). cond (p && q) (Some (natural digits)) None) (sym is ∙ met) within)
+    ap Some all ∙ sym (ap₂ (λ (p q : Bool). cond (p && q) (Some (natural digits)) None) (sym met) within)
 
-pub no_natural : (digits : Word) (b : Bool) → b ≡ is_digits digits → b ≡ false → None ≡ fitting_natural digits
-no_natural digits b is unmet = ap (λ (p : Bool). cond (p && nat_lt (natural digits) (10 ^ 36)) (Some (natural digits)) None) (sym unmet ∙ is)
+pub no_natural : (digits : Word) → false ≡ is_digits digits → None ≡ fitting_natural digits
+no_natural digits unmet = ap (λ (p : Bool). cond (p && nat_lt (natural digits) (10 ^ 36)) (Some (natural digits)) None) unmet
+
+-- ---- a number, or a quotient
+
+place_case : (b : Bool) (n place : ℕ) → cond b (Some n) None ≡ Some place → place ≡ n
+place_case true n place e = cc
+place_case false n place e = cc
+
+pub slash_place : (text : Word) (found : Option ℕ) (place : ℕ) → found ≡ position is_slash text → found ≡ Some place → place ≡ position_or_len is_slash text
+slash_place text found place is some = place_case (nat_lt (position_or_len is_slash text) (length text)) (position_or_len is_slash text) place (sym is ∙ some)
+
+has_slash : (text : Word) (found : Option ℕ) → found ≡ position is_slash text → is_some found ≡ list_any is_slash text
+has_slash text found is = ap is_some is ∙ is_found is_slash text
+
+pub value_quotient : (text : Word) (found : Option ℕ) (place : ℕ) → found ≡ position is_slash text → found ≡ Some place → quotient text ≡ value text
+unfolding value
+value_quotient text found place is some = ap (λ b. cond b (quotient text) (option_map fraction_of (number text))) (sym (ap is_some some) ∙ has_slash text found is)
+
+pub value_number : (text : Word) (found : Option ℕ) → found ≡ position is_slash text → found ≡ None → option_map fraction_of (number text) ≡ value text
+unfolding value
+value_number text found is none = ap (λ b. cond b (quotient text) (option_map fraction_of (number text))) (sym (ap is_some none) ∙ has_slash text found is)

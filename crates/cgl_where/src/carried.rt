@@ -1,17 +1,17 @@
 //! What a reader of a point file carries from line to line.
 
-ghost use Rattle.std.specs.Prelude.{◌≡◌, ◌<◌, ◌∷◌, ◌++◌, [], length, map, slice_set, IfOk, OnOk, None, Some, is_some, false};
+ghost use Rattle.std.specs.Prelude.{◌≡◌, ℕ, [], length, map, IfOk, None, false};
 ghost use Rattle.cgl_where.specs.Carried.{Carries, FollowsLine, IsSound, TakesIn, carried_conditions, carried_value, named_at};
 ghost use Rattle.cgl_where.specs.Limits.{ArePositive};
 ghost use Rattle.cgl_num.specs.Conditions.{first_kind};
-ghost use Rattle.cgl_where.specs.PointFile.{is_too_fine, point_in, record_of};
+ghost use Rattle.cgl_num.specs.Seen.{words};
+ghost use Rattle.cgl_where.specs.PointFile.{Record, is_too_fine, point_in, record_of};
 
 use crate::columns::Columns;
 use crate::denominators::{grown_denominator, point_in};
-use crate::record::{Record, field};
-use crate::records::{is_kept, record_of};
-use crate::values::{value, zero};
-use cgl_model::{Column, Point};
+use crate::values::value;
+use cgl_model::Point;
+use cgl_num::text::kept_fields;
 use cgl_num::{Frac, Memory};
 use std::alloc::Global;
 
@@ -24,19 +24,6 @@ pub(crate) struct Carried {
     named: Vec<Option<Frac>>,
     values: Vec<Frac>,
     denominator: u128,
-}
-
-/// No value for each column.
-fn unnamed(alloc: Global, columns: &[Column]) -> Result<Vec<Option<Frac>>, Memory>
-    ensures { IfOk result (λ found. found.items ≡ map (λ c. None) columns.now) }
-{
-    let mut found = Vec::new(alloc);
-    for _column in columns {
-        let Ok(()) = found.push(None) else {
-            return Err(Memory);
-        };
-    }
-    Ok(found)
 }
 
 /// The value of the column of this number, where a line named it.
@@ -61,9 +48,9 @@ fn column_values(
     ensures { IfOk result (λ found. found.items ≡ map (λ c. carried_value columns.now named.now c.name) columns.now.cols) }
 {
     let mut found = Vec::new(alloc);
-    for c in columns.as_slice() {
+    for c in columns.model.cols.as_slice() {
         let number = columns.find(c.name.as_slice());
-        let Ok(()) = found.push(named_at(named, number).unwrap_or(zero())) else {
+        let Ok(()) = found.push(named_at(named, number).unwrap_or(Frac::new(0, 1))) else {
             return Err(Memory);
         };
     }
@@ -75,7 +62,7 @@ impl Carried {
     pub(crate) fn new(alloc: Global, columns: &Columns) -> Result<Carried, Memory>
         ensures { IfOk result (λ it. Carries columns.now [] it) }
     {
-        let Ok(named) = unnamed(alloc, columns.as_slice()) else {
+        let Ok(named) = vec![in alloc; None; columns.model.cols.as_slice().len()] else {
             return Err(Memory);
         };
         Ok(Carried {
@@ -85,94 +72,62 @@ impl Carried {
         })
     }
 
-    /// Whether a line named the column of this number.
-    fn is_named(&self, column: usize) -> bool
-        ensures { result ≡ is_some (named_at self.now.named.items (Some column)) }
-    {
-        named_at(self.named.as_slice(), Some(column)).is_some()
-    }
-
-    /// Takes in the value of a column.
-    fn put(&mut self, column: usize, value: Frac, denominator: u128) -> Result<(), Memory>
-        requires { column < length self.old.named.items }
-        ensures named { OnOk result (self.new.named.items ≡ slice_set self.old.named.items column (Some value)) }
-        ensures values { OnOk result (self.new.values.items ≡ self.old.values.items ++ value ∷ []) }
-        ensures common { OnOk result (self.new.denominator ≡ denominator) }
-    {
-        let Ok(()) = self.values.push(value) else {
-            return Err(Memory);
-        };
-        self.named[column] = Some(value);
-        self.denominator = denominator;
-        Ok(())
-    }
-
-    /// Takes in the value of a line that has fields, unless the line is a fault. The kind of the fault.
-    fn take_value(&mut self, columns: &Columns, r: &Record) -> Result<Option<u8>, Memory>
+    /// Takes in the value of the fields of a line, unless the line is a fault. The kind of the fault.
+    fn take_value(&mut self, columns: &Columns, fields: &[&[u8]]) -> Result<Option<u8>, Memory>
         requires { IsSound columns.now self.old }
-        ensures kind { IfOk result (λ kind. kind ≡ first_kind (carried_conditions columns.now self.old r.now)) }
-        ensures taken { IfOk result (λ kind. kind ≡ None → TakesIn columns.now r.now self.old self.new) }
+        ensures kind { IfOk result (λ kind. (r : Record) → r.fields ≡ words fields.now
+            → kind ≡ first_kind (carried_conditions columns.now self.old r)) }
+        ensures taken { IfOk result (λ kind. (r : Record) → r.fields ≡ words fields.now
+            → kind ≡ None → TakesIn columns.now r self.old self.new) }
     {
-        if r.fields().len() != 2 {
+        let [name, text] = fields else {
             return Ok(Some(3));
-        }
-        let Some(column) = columns.find(field(r, 0)) else {
+        };
+        let Some(column) = columns.find(name) else {
             return Ok(Some(6));
         };
-        if self.is_named(column) {
+        if self.named[column].is_some() {
             return Ok(Some(14));
         }
-        let Some(taken) = value(field(r, 1)) else {
+        let Some(taken) = value(text) else {
             return Ok(Some(4));
         };
         let Some(denominator) = grown_denominator(self.values.as_slice(), self.denominator, taken)
         else {
             return Ok(Some(13));
         };
-        let Ok(()) = self.put(column, taken, denominator) else {
+        let Ok(()) = self.values.push(taken) else {
             return Err(Memory);
         };
+        self.named[column] = Some(taken);
+        self.denominator = denominator;
         Ok(None)
     }
 
-    /// Takes in the record of a line, unless it is a fault. The kind of the fault. The byte past the limit may stand in the line.
-    fn take_record(
-        &mut self,
-        columns: &Columns,
-        r: &Record,
-        over: bool,
-    ) -> Result<Option<u8>, Memory>
-        requires { IsSound columns.now self.old }
-        ensures { IfOk result (λ kind. FollowsLine columns.now r.now over kind self.old self.new) }
-    {
-        if over {
-            return Ok(Some(12));
-        }
-        if r.length() > LONGEST_LINE {
-            return Ok(Some(11));
-        }
-        if !is_kept(r) {
-            return Ok(None);
-        }
-        self.take_value(columns, r)
-    }
-
-    /// Takes in line n, unless it is a fault. The kind of the fault.
+    /// Takes in a line, unless it is a fault. The kind of the fault. The byte past the limit may stand in the line.
     pub(crate) fn take_line(
         &mut self,
         alloc: Global,
         columns: &Columns,
-        n: u64,
         line: &[u8],
         over: bool,
     ) -> Result<Option<u8>, Memory>
         requires { IsSound columns.now self.old }
-        ensures { IfOk result (λ kind. FollowsLine columns.now (record_of n line.now) over kind self.old self.new) }
+        ensures { IfOk result (λ kind. (n : ℕ) → FollowsLine columns.now (record_of n line.now) over kind self.old self.new) }
     {
-        let Ok(r) = record_of(alloc, n, line) else {
+        let Ok(fields) = kept_fields(alloc, line) else {
             return Err(Memory);
         };
-        self.take_record(columns, &r, over)
+        if over {
+            return Ok(Some(12));
+        }
+        if line.len() > LONGEST_LINE {
+            return Ok(Some(11));
+        }
+        if fields.is_empty() {
+            return Ok(None);
+        }
+        self.take_value(columns, fields.as_slice())
     }
 
     /// The values of the columns over their least common denominator.

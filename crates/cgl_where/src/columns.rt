@@ -1,27 +1,17 @@
 //! The columns of a model by their names.
 
-ghost use Rattle.std.specs.Prelude.{◌≡◌, ◌++◌, IfOk, OnOk, map};
-ghost use Rattle.cgl_where.specs.PointFile.{column_names};
+ghost use Rattle.std.specs.Prelude.{◌≡◌, IfOk};
 ghost use Rattle.cgl_where.specs.Carried.{column_number};
 
-use cgl_model::{Column, Model};
+use cgl_model::Model;
 use cgl_num::Memory;
 use cgl_num::text::Names;
 use std::alloc::Global;
 
-fn push_names<'a>(names: &mut Names<'a>, columns: &'a [Column]) -> Result<(), Memory>
-    ensures { OnOk result (names.new ≡ names.old ++ map (λ c. c.name) columns.now) }
-{
-    for column in columns {
-        names.push(column.name.as_slice())?;
-    }
-    Ok(())
-}
-
 /// A model whose columns are found by their names.
 #[derive(Drop)]
 pub(crate) struct Columns<'a> {
-    model: &'a Model,
+    pub(crate) model: &'a Model,
     names: Names<'a>,
 }
 
@@ -42,15 +32,10 @@ impl<'a> Columns<'a> {
         ensures { IfOk result (λ it. it ≡ model.now) }
     {
         let mut names = Names::new(alloc);
-        push_names(&mut names, model.cols.as_slice())?;
+        for column in model.cols.as_slice() {
+            names.push(column.name.as_slice())?;
+        }
         Ok(Columns { model, names })
-    }
-
-    /// The columns in their order.
-    pub(crate) fn as_slice(&self) -> &[Column]
-        ensures { result.now ≡ self.now.cols }
-    {
-        self.model.cols.as_slice()
     }
 
     /// The number of the first column of the name.

@@ -1,8 +1,7 @@
 //! Values over their least common denominator.
 
-ghost use Rattle.std.specs.Prelude.{◌≡◌, ◌<◌, ◌≤◌, ◌^◌, ℕ, pos, ◌<ℤ◌, false, unsigned_abs, nat_le, IfOk, IfSome, map};
+ghost use Rattle.std.specs.Prelude.{◌≡◌, ◌<◌, ◌≤◌, ◌^◌, false, unsigned_abs, IfOk, IfSome};
 ghost use Rattle.std.specs.List.{list_any};
-ghost use Rattle.cgl_num.specs.Gcd.{gcd as greatest};
 ghost use Rattle.cgl_where.specs.PointFile.{common_denominator, is_too_fine, lcm, numerator_over, point_in};
 ghost use Rattle.cgl_where.specs.Carried.{grown_denominator, is_wide};
 ghost use Rattle.cgl_where.specs.Limits.{ArePositive, fitting_denominator, fitting_numerator};
@@ -15,14 +14,6 @@ const MOST_DENOMINATOR: u128 = 4_611_686_018_427_387_904;
 
 const NUMERATOR_END: u128 = 1_267_650_600_228_229_401_496_703_205_376;
 
-fn divisor(a: u128, b: u128) -> u128
-    requires a { a < 2 ^ 127 }
-    requires b { b < 2 ^ 127 }
-    ensures { result ≡ greatest a b }
-{
-    gcd(a as i128, b as i128).unsigned_abs()
-}
-
 /// The least common multiple, unless it is above 2^62.
 fn lcm(a: u128, b: u128) -> Option<u128>
     requires a { a < 2 ^ 127 }
@@ -30,7 +21,7 @@ fn lcm(a: u128, b: u128) -> Option<u128>
     requires positive { 0 < b }
     ensures { result ≡ fitting_denominator (lcm a b) }
 {
-    match a.checked_mul(b / divisor(a, b)) {
+    match a.checked_mul(b / gcd(a as i128, b as i128).unsigned_abs()) {
         Some(multiple) => {
             if multiple > MOST_DENOMINATOR {
                 return None;
@@ -68,26 +59,19 @@ fn common_denominator(values: &[Frac]) -> Option<u128>
     Some(d)
 }
 
-/// The numerator, unless it reaches 2^100.
-fn fitting_numerator(number: i128) -> Option<i128>
-    ensures { result ≡ fitting_numerator number }
-{
-    if number.unsigned_abs() >= NUMERATOR_END {
-        return None;
-    }
-    Some(number)
-}
-
 /// The numerator over the denominator d, unless it reaches 2^100.
 fn numerator_over(d: u128, f: Frac) -> Option<i128>
     requires { d ≤ 2 ^ 62 }
     ensures { result ≡ fitting_numerator (numerator_over d f) }
 {
     let factor = (d / den(f)) as i128;
-    match f.num().checked_mul(factor) {
-        Some(number) => fitting_numerator(number),
-        None => None,
+    let Some(number) = f.num().checked_mul(factor) else {
+        return None;
+    };
+    if number.unsigned_abs() >= NUMERATOR_END {
+        return None;
     }
+    Some(number)
 }
 
 fn is_wide(d: u128, f: Frac) -> bool
@@ -95,13 +79,6 @@ fn is_wide(d: u128, f: Frac) -> bool
     ensures { result ≡ is_wide d f }
 {
     numerator_over(d, f).is_none()
-}
-
-fn some_wide(d: u128, values: &[Frac]) -> bool
-    requires { d ≤ 2 ^ 62 }
-    ensures { result ≡ list_any (is_wide d) values.now }
-{
-    values.iter().any(|f| is_wide(d, *f))
 }
 
 /// The common denominator of values and of one value more, unless it is above 2^62 or a numerator over it
@@ -118,35 +95,10 @@ pub(crate) fn grown_denominator(values: &[Frac], d: u128, f: Frac) -> Option<u12
     if is_wide(next, f) {
         return None;
     }
-    if next != d && some_wide(next, values) {
+    if next != d && values.iter().any(|earlier| is_wide(next, *earlier)) {
         return None;
     }
     Some(next)
-}
-
-fn numerator_within(d: u128, f: Frac) -> i128
-    requires denominator { d ≤ 2 ^ 62 }
-    requires within { nat_le (2 ^ 100) (unsigned_abs (numerator_over d f)) ≡ false }
-    ensures { result ≡ numerator_over d f }
-{
-    match numerator_over(d, f) {
-        Some(number) => number,
-        None => unreachable!(),
-    }
-}
-
-fn numerators(alloc: Global, d: u128, values: &[Frac]) -> Result<Vec<i128>, Memory>
-    requires denominator { d ≤ 2 ^ 62 }
-    requires within { list_any (λ f. nat_le (2 ^ 100) (unsigned_abs (numerator_over d f))) values.now ≡ false }
-    ensures { IfOk result (λ found. found.items ≡ map (numerator_over d) values.now) }
-{
-    let mut found = Vec::new(alloc);
-    for f in values {
-        let Ok(()) = found.push(numerator_within(d, *f)) else {
-            return Err(Memory);
-        };
-    }
-    Ok(found)
 }
 
 /// The values over their least common denominator.
@@ -158,8 +110,14 @@ pub(crate) fn point_in(alloc: Global, values: &[Frac]) -> Result<Point, Memory>
     let Some(d) = common_denominator(values) else {
         unreachable!()
     };
-    let Ok(numbers) = numerators(alloc, d, values) else {
-        return Err(Memory);
-    };
-    Ok(Point::new(Seq::from_vec(numbers), d as i128))
+    let mut numerators = Vec::new(alloc);
+    for f in values {
+        let Some(number) = numerator_over(d, *f) else {
+            unreachable!()
+        };
+        let Ok(()) = numerators.push(number) else {
+            return Err(Memory);
+        };
+    }
+    Ok(Point::new(Seq::from_vec(numerators), d as i128))
 }

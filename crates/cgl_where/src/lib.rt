@@ -5,12 +5,8 @@ mod carried;
 mod columns;
 mod denominators;
 mod laws;
-mod numbers;
 mod point;
 mod read;
-mod record;
-mod records;
-mod texts;
 mod values;
 
 pub use laws::known_points;

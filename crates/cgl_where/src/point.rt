@@ -45,7 +45,7 @@ fn point_from(
     'lines: for (i, line) in texts.iter().enumerate() {
         let n = i as u64 + 1;
         let over = is_over(bytes, texts.len(), n);
-        let Ok(fault) = carried.take_line(alloc, columns, n, line, over) else {
+        let Ok(fault) = carried.take_line(alloc, columns, line, over) else {
             return Err(PointError::Memory);
         };
         if let Some(kind) = fault {
@@ -56,23 +56,6 @@ fn point_from(
         Ok(point) => Ok(point),
         Err(_) => Err(PointError::Memory),
     }
-}
-
-/// The point that a file means for a model, whose columns are at hand.
-fn point_for(alloc: Global, bytes: &[u8], columns: &Columns) -> Result<Point, PointError>
-    requires { length bytes.now ≤ 2 ^ 30 + 1 }
-    ensures point { IfOk result (λ x. point_of bytes.now columns.now ≡ Values x) }
-    ensures sized { IfOk result (λ x. length x.p ≡ length columns.now.cols) }
-    ensures fault { IfErr result (λ e. (e ≡ PointError.Memory)
-        ⊎ ((line : ℕ) × (kind : ℕ) × (e ≡ PointError.Fault line kind) × (point_of bytes.now columns.now ≡ Fault line kind))) }
-{
-    let Ok(lines) = Lines::of(alloc, bytes) else {
-        return Err(PointError::Memory);
-    };
-    let Ok(mut carried) = Carried::new(alloc, columns) else {
-        return Err(PointError::Memory);
-    };
-    point_from(alloc, bytes, columns, &lines, &mut carried)
 }
 
 /// The point that a file means for the model. `bytes` are the whole file, or its first 2^30 + 1
@@ -95,5 +78,11 @@ pub fn point_of(alloc: Global, bytes: &[u8], model: &Model) -> Result<Point, Poi
     let Ok(columns) = Columns::of(alloc, model) else {
         return Err(PointError::Memory);
     };
-    point_for(alloc, bytes, &columns)
+    let Ok(lines) = Lines::of(alloc, bytes) else {
+        return Err(PointError::Memory);
+    };
+    let Ok(mut carried) = Carried::new(alloc, &columns) else {
+        return Err(PointError::Memory);
+    };
+    point_from(alloc, bytes, &columns, &lines, &mut carried)
 }

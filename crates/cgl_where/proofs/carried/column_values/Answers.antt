@@ -1,18 +1,26 @@
-use Rattle.std.proofs.Common.{◌≡◌, ◌∙◌, ap, map}
-use Rattle.cgl_num.specs.Fraction.{Fraction}
+use Rattle.std.proofs.Common.{◌≡◌, ◌∙◌, ap, refl, map}
+use Rattle.std.specs.Prelude.{pos}
+use Rattle.cgl_num.specs.Fraction.{Fraction, lowest}
+use Rattle.cgl_num.specs.Gcd.{gcd}
 use Rattle.cgl_model.specs.declared.mip.Column.{Column}
+use Rattle.cgl_model.specs.declared.mip.Model.{Model}
+use Rattle.cgl_where.specs.PointFile.{zero_fraction}
 use Rattle.cgl_where.specs.Carried.{carried_value}
 use Rattle.cgl_where.proofs.StepLaws.{mapped_all, mapped_more}
 use Rattle.cgl_where.proofs.carried.column_values.Goals as goal
+
+zero_is : lowest (pos 0) (pos 1) ≡ zero_fraction
+unfolding lowest gcd
+zero_is = refl
 
 pub loop-c-preserved : goal.loop-c-preserved
 loop-c-preserved c =
     let column = c.c-item.result in
     let value : Column → Fraction = λ x. carried_value c.args.columns.now c.args.named.now x.name in
-    let is_value : c.unwrap_or.result ≡ value column = cc in
+    let is_value : c.unwrap_or.result ≡ value column = cc (zero_is) in
     mapped_more value c.as_slice-c-items.result.now c.loop-c.c-index column _ _ _ c.loop-c-test.true c.c-item.is is_value c.loop-c.invariant c.in-Ok.ensures.items
 
 pub returns : goal.returns
 returns c =
     let value : Column → Fraction = λ x. carried_value c.args.columns.now c.args.named.now x.name in
-    mapped_all value c.as_slice-c-items.result.now c.loop-c.c-index _ c.loop-c-test.false c.loop-c.invariant ∙ ap (map value) c.as_slice-c-items.ensures
+    mapped_all value c.as_slice-c-items.result.now c.loop-c.c-index _ c.loop-c-test.false c.loop-c.invariant ∙ ap (map value) c.as_slice-c-items.ensures ∙ ap (λ (m : Model). map value m.cols) c.columns.view_is

@@ -1,11 +1,13 @@
-use Rattle.std.proofs.Common.{◌≡◌, refl, sym, ap, ap₂, ◌∙◌, subst, ℕ, ◌^◌, nat_lt, Bool, true, false, cond, List, Some, None}
+use Rattle.std.proofs.Common.{◌≡◌, refl, sym, ap, ap₂, ◌∙◌, subst, rules, tests, ℕ, ◌^◌, nat_lt, Bool, true, false, cond, List, Some, None}
 use Rattle.std.specs.Prelude.{unsigned_abs}
+use Rattle.std.proofs.lemmas.Iterator.{YieldsList-from_slice}
+use Rattle.std.proofs.lemmas.Iterator.Search.{any_from_yields_List}
 use Rattle.std.specs.List.{list_any}
 use Rattle.cgl_num.specs.Fraction.{Fraction}
 use Rattle.cgl_where.specs.PointFile.{lcm}
 use Rattle.cgl_where.specs.Limits.{fitting_denominator}
 use Rattle.cgl_where.specs.Carried.{grown_within, is_wide}
-use Rattle.cgl_where.proofs.denominators.grown_denominator.Goals.{else-next-d-via-then-next-d+else-some_wide, else-next-d-via-else-next-d}
+use Rattle.cgl_where.proofs.denominators.grown_denominator.Goals.{else-next-d-via-then-next-d+else-any, else-next-d-via-else-next-d}
 use Rattle.cgl_where.proofs.denominators.grown_denominator.Goals as goal
 
 grown : (n next : ℕ) (values : List Fraction) (f : Fraction) (above : Bool) → nat_lt (2 ^ 62) n ≡ above → cond above None (Some n) ≡ Some next
@@ -22,7 +24,7 @@ returns c =
     let n = lcm (unsigned_abs c.args.f.den) c.args.d in
     let next = c.in-Some.next in
     let none_wide : list_any (is_wide next) c.args.values.now ≡ false = elim c.else-next-d.branch [
-      | else-next-d-via-then-next-d+else-some_wide w ↦ sym w.some_wide.ensures ∙ w.if-some_wide.false
+      | else-next-d-via-then-next-d+else-any w ↦ sym (any_from_yields_List (is_wide next) _ _ w.any.result w.any.ensures.ran (YieldsList-from_slice c.args.values.now cc) (λ x b q k. search (rules, tests))) ∙ w.if-any.false
       | else-next-d-via-else-next-d w ↦ subst (λ (d : ℕ). list_any (is_wide d) c.args.values.now ≡ false) (sym w.if-next-d.false) c.requires.fine
     ] in
     grown n next c.args.values.now c.args.f (nat_lt (2 ^ 62) n) refl

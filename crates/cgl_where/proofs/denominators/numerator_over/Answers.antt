@@ -3,6 +3,7 @@ use Rattle.std.specs.Prelude.{ℤ, pos, ◌*ℤ◌, unsigned_abs}
 use Rattle.std.specs.Int.{w128}
 use Rattle.std.specs.Int.RustNames.{FitsSigned}
 use Rattle.std.proofs.lemmas.Bool.Decides.{nat_tests}
+use Rattle.std.proofs.lemmas.Grind.{common_steps}
 use Rattle.std.proofs.lemmas.Int.{ints, to_z-of_z, to_z_pos}
 use Rattle.cgl_num.specs.Fraction.{Fraction}
 use Rattle.cgl_where.specs.PointFile.{numerator_over}
@@ -21,18 +22,31 @@ large_case z false e large =
 large : (d : ℕ) (f : Fraction) (z : ℤ) → z ≡ numerator_over d f → (FitsSigned w128 z → ⊥) → None ≡ fitting_numerator (numerator_over d f)
 large d f z is h = subst (λ (n : ℤ). None ≡ fitting_numerator n) is (large_case z (nat_le (2 ^ 100) (unsigned_abs z)) refl h)
 
+below_limit : (number : ℤ) → unsigned_abs number < 2 ^ 100 → Some number ≡ fitting_numerator number
+below_limit number below = grind (arith, common_steps)
+
+kept : (number read : ℤ) → read ≡ number → unsigned_abs read < 2 ^ 100 → Some read ≡ fitting_numerator number
+kept number read same below = ap Some same ∙ below_limit number (subst (λ (z : ℤ). unsigned_abs z < 2 ^ 100) same below)
+
 pub nonzero_div-factor : goal.nonzero_div-factor
 nonzero_div-factor c = c.den.ensures.positive
 
 pub overflow_cast-factor : goal.overflow_cast-factor
 overflow_cast-factor c = search rules
 
-pub returns-in-Some : goal.returns-in-Some
-returns-in-Some c = search rules
-
-pub returns-in-None : goal.returns-in-None
-returns-in-None c =
+pub returns-in_default : goal.returns-in_default
+returns-in_default c =
     let factor : c.args.d / c.den.result < 2 ^ 127 = omega arith in
     large c.args.d c.args.f _
     (over_is c.args.d c.den.result c.args.f _ _ (to_z-of_z w128 c.num.result (record { sfits = c.num.type_inv }) ∙ c.num.ensures.num) (to_z_pos w128 (c.args.d / c.den.result) factor) c.den.ensures.value)
-    c.in-None.ensures
+    c.in_default.ensures
+
+pub returns : goal.returns
+returns c =
+    let fits : FitsSigned w128 c.in-Some.number = search rules in
+    let factor : c.args.d / c.den.result < 2 ^ 127 = omega arith in
+    kept (numerator_over c.args.d c.args.f) _
+    (to_z-of_z w128 c.in-Some.number fits
+    ∙ c.in-Some.ensures.1
+    ∙ over_is c.args.d c.den.result c.args.f _ _ (to_z-of_z w128 c.num.result (record { sfits = c.num.type_inv }) ∙ c.num.ensures.num) (to_z_pos w128 (c.args.d / c.den.result) factor) c.den.ensures.value)
+    (omega arith)

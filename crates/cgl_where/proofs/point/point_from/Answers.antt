@@ -1,9 +1,11 @@
-use Rattle.std.proofs.Common.{◌∙◌, sym, ap, refl, arith, inl, inr, [], ◌+◌, ◌<◌, ◌≤◌, ℕ, List, get_or, length}
+use Rattle.std.proofs.Common.{◌∙◌, refl, arith, inl, inr, [], ◌+◌, ◌<◌, ◌≤◌, ℕ, List, length}
 use denote.Ref.{Bor}
-use Rattle.cgl_where.specs.PointFile.{record_of}
 use Rattle.cgl_where.proofs.CarriedLaws.{carries_sound, reads_fault, reads_first, reads_last, reads_next, reads_ready}
 use Rattle.cgl_where.proofs.ReadingLaws.{count_lines}
 use Rattle.cgl_where.proofs.point.point_from.Goals as goal
+
+abbrev empty : Bor (List ℕ)
+empty = record { ref_ptr = (0, 0); now = [] }
 
 pub lines-init : goal.lines-init
 lines-init c =
@@ -16,26 +18,21 @@ pub returns-in-Some-clause-fault : goal.returns-in-Some-clause-fault
 returns-in-Some-clause-fault c =
     let texts = c.as_slice-texts.result.now in
     let i = c.lines.i in
-    let empty : Bor (List ℕ) = record { ref_ptr = (0, 0); now = [] } in
-    let line = get_or texts i empty in
     let inside : i < length texts = omega arith in
     inr (
       i + 1,
       c.in-Some.kind,
       refl,
-      reads_fault c.args.bytes.now c.args.columns.now texts i line empty (record_of (i + 1) line.now) c.is_over-over.result c.in-Ok.fault c.in-Some.kind _ _ refl inside
-          refl c.is_over-over.ensures c.in-Some.is c.lines.invariant c.in-Ok.ensures,
+      reads_fault c.args.bytes.now c.args.columns.now texts i empty c.is_over-over.result c.in-Ok.fault c.in-Some.kind _ _ inside c.is_over-over.ensures c.in-Some.is c.lines.invariant
+          (c.in-Ok.ensures (i + 1)),
     )
 
 pub lines-preserved : goal.lines-preserved
 lines-preserved c =
     let texts = c.as_slice-texts.result.now in
     let i = c.lines.i in
-    let empty : Bor (List ℕ) = record { ref_ptr = (0, 0); now = [] } in
-    let line = get_or texts i empty in
     let inside : i < length texts = omega arith in
-    reads_next c.args.bytes.now c.args.columns.now texts i line empty (record_of (i + 1) line.now) c.is_over-over.result c.in-Ok.fault _ _ refl inside
-    refl c.is_over-over.ensures c.in_default-fault.is c.lines.invariant c.in-Ok.ensures
+    reads_next c.args.bytes.now c.args.columns.now texts i empty c.is_over-over.result c.in-Ok.fault _ _ inside c.is_over-over.ensures c.in_default-fault.is c.lines.invariant (c.in-Ok.ensures (i + 1))
 
 pub point-requires-clause-positive : goal.point-requires-clause-positive
 point-requires-clause-positive c = (reads_ready _ _ _ _ _ c.lines.invariant).positive

@@ -14,16 +14,13 @@ returns-in_default-clause-sized c = tt
 pub returns-in_default-clause-fault : goal.returns-in_default-clause-fault
 returns-in_default-clause-fault c = inl refl
 
-pub point_for-requires : goal.point_for-requires
-point_for-requires c = c.requires
-
 pub returns-clause-point : goal.returns-clause-point
-returns-clause-point c = subst (λ (m : Model). IfOk c.point_for.result (λ x. point_of c.args.bytes.now m ≡ Values x)) c.in-Ok.ensures c.point_for.ensures.point
+returns-clause-point c = subst (λ (m : Model). IfOk c.point_from.result (λ x. point_of c.args.bytes.now m ≡ Values x)) c.in-Ok.ensures c.point_from.ensures.point
 
 pub returns-clause-sized : goal.returns-clause-sized
-returns-clause-sized c = subst (λ (m : Model). IfOk c.point_for.result (λ x. length x.p ≡ length m.cols)) c.in-Ok.ensures c.point_for.ensures.sized
+returns-clause-sized c = subst (λ (m : Model). IfOk c.point_from.result (λ x. length x.p ≡ length m.cols)) c.in-Ok.ensures c.point_from.ensures.sized
 
 pub returns-clause-fault : goal.returns-clause-fault
 returns-clause-fault c =
-    subst (λ (m : Model). IfErr c.point_for.result (λ e. (e ≡ Memory) ⊎ ((line : ℕ) × (kind : ℕ) × (e ≡ BadLine line kind) × (point_of c.args.bytes.now m ≡ Fault line kind))))
-    c.in-Ok.ensures c.point_for.ensures.fault
+    subst (λ (m : Model). IfErr c.point_from.result (λ e. (e ≡ Memory) ⊎ ((line : ℕ) × (kind : ℕ) × (e ≡ BadLine line kind) × (point_of c.args.bytes.now m ≡ Fault line kind))))
+    c.in-Ok.ensures c.point_from.ensures.fault
