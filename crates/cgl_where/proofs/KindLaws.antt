@@ -1,5 +1,5 @@
 -- The first kind of fault of a line's value, from what the code finds out in turn.
-use Rattle.std.proofs.Common.{◌≡◌, sym, ap, ap₂, ◌∙◌, subst, arith, ℕ, ◌<◌, ◌≤◌, ◌^◌, ◌==◌, nat_lt, Bool, true, false, not, cond, List, [], length, get_or, Option, Some, None, is_some, is_none, option_and_then}
+use Rattle.std.proofs.Common.{◌≡◌, ◌≢◌, sym, ap, ap₂, ◌∙◌, subst, arith, ℕ, ◌<◌, ◌≤◌, ◌^◌, ◌==◌, nat_lt, Bool, true, false, not, cond, List, [], length, get_or, Option, Some, None, is_some, is_none, option_and_then}
 use Rattle.std.specs.Prelude.{option_map, slice_get, unsigned_abs, unwrap_or}
 use denote.Ref.{Bor}
 use Rattle.std.specs.List.{list_any}
@@ -40,6 +40,14 @@ taken_kind carried taken =
 abbrev pub value_kind : Carried → Option ℕ → Option Fraction → Option ℕ
 value_kind carried number taken = cond (is_none number) (Some 6) (cond (is_some (named_at carried.named.items number)) (Some 14) (taken_kind carried taken))
 
+not_two : (n : ℕ) → n ≢ 2 → not (n == 2) ≡ true
+not_two n other = grind (arith, nat_tests)
+
+pub kind_count : (m : Model) (carried : Carried) (fields : List (Bor (List ℕ))) (r : Record) → r.fields ≡ words fields → length fields ≢ 2 → Some 3 ≡ first_kind (carried_conditions m carried r)
+kind_count m carried fields r is other =
+    let met : not (length r.fields == 2) ≡ true = ap (λ l. not (length l == 2)) is ∙ ap (λ n. not (n == 2)) (length-map fields word) ∙ not_two (length fields) other in
+    sym (ap (λ b. cond b (Some 3) (value_kind carried (column_number m (field 0 r)) (value (field 1 r)))) met)
+
 pub kind_of : (m : Model) (carried : Carried) (fields : List (Bor (List ℕ))) (r : Record) (empty : Bor (List ℕ)) (number : Option ℕ) (taken : Option Fraction)
     → r.fields ≡ words fields → 2 ≤ length fields → length fields < 3
     → column_number m (get_or fields 0 empty).now ≡ number → value (get_or fields 1 empty).now ≡ taken
@@ -63,9 +71,6 @@ kind_grown carried taken values grown b values_are is b_is =
     ap (λ p. cond p (Some 13) None) (sym b_is ∙ ap is_none (is ∙ ap (λ l. grown_denominator l carried.denominator taken) values_are))
 
 -- ---- what is taken in
-
-pub untaken : {A : Type 0} (kind : ℕ) → Some kind ≡ None → A
-untaken kind e = cc
 
 grown_case : (a b c : Bool) (d n : ℕ) → cond a None (cond b None (cond c None (Some d))) ≡ Some n → n ≡ d
 grown_case true b c d n e = cc

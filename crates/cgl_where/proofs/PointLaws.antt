@@ -1,5 +1,5 @@
 -- The values of a model's columns are no finer than those of the lines.
-use Rattle.std.proofs.Common.{◌≡◌, refl, sym, ap₂, subst, arith, ℕ, ◌*◌, ◌/◌, ◌^◌, ◌<◌, ◌≤◌, nat_lt, nat_le, Bool, true, false, cond, ◌||◌, ◌&&◌, List, [], ◌∷◌, map, find, Option, Some, None, option_map, option_and_then}
+use Rattle.std.proofs.Common.{◌≡◌, refl, sym, ap, ap₂, ◌∙◌, subst, arith, ℕ, ◌*◌, ◌/◌, ◌^◌, ◌<◌, ◌≤◌, nat_lt, nat_le, Bool, true, false, cond, ◌||◌, ◌&&◌, List, [], ◌∷◌, map, length, get_or, find, Option, Some, None, option_map, option_and_then}
 use Rattle.std.specs.Prelude.{ℤ, pos, ◌<ℤ◌, unsigned_abs, unwrap_or}
 use Rattle.std.specs.Int.{◌∣◌}
 use Rattle.std.specs.List.{list_any, cons_option}
@@ -14,9 +14,12 @@ use Rattle.cgl_num.proofs.FractionLaws.{lowest_positive}
 use Rattle.cgl_num.proofs.DecimalLaws.{tens_pos}
 use Rattle.cgl_num.proofs.DigitLaws.{and-left, and-right}
 use Rattle.cgl_where.specs.PointValue.{is_slash, numerator, denominator, is_quotient, quotient, fraction_of, value}
-use Rattle.cgl_where.specs.PointFile.{Record, field, common_denominator, numerator_over, is_too_fine, values, value_at, names_column, zero_fraction}
-use Rattle.cgl_where.specs.Limits.{ArePositive}
-use Rattle.cgl_where.proofs.LcmLaws.{lcm_first, lcm_second, lcm_least, denominator_above}
+use Rattle.cgl_where.specs.PointFile.{Record, field, common_denominator, numerator_over, is_too_fine, values, value_at, names_column, zero_fraction, point_over, point_in}
+use Rattle.cgl_where.specs.Limits.{ArePositive, fitting_denominator, fitting_numerator}
+use Rattle.cgl_where.specs.Carried.{is_wide}
+use Rattle.cgl_model.specs.Point.{Point}
+use Rattle.cgl_where.proofs.StepLaws.{none_at}
+use Rattle.cgl_where.proofs.LcmLaws.{lcm_first, lcm_second, lcm_least, denominator_above, fits}
 
 -- ---- values have denominators above 0
 
@@ -89,7 +92,7 @@ or-right false b e = e
 pub not_at_least : (n m : ℕ) → nat_le m n ≡ false → n < m
 not_at_least n m e = grind (arith, nat_tests)
 
-below_is : (n m : ℕ) → n < m → nat_le m n ≡ false
+pub below_is : (n m : ℕ) → n < m → nat_le m n ≡ false
 below_is n m lt = grind (arith, nat_tests)
 
 not_above : (n m : ℕ) → nat_lt m n ≡ false → n ≤ m
@@ -183,3 +186,14 @@ point_ready records names e =
       positive = fine_positive d (map (value_at records) names) all;
       within = to_fine d (map (value_at records) names) (denominator_above (values records) (values_positive records)) (denominator_within (values records) e) all;
     }
+
+-- ---- the point over the common denominator
+
+pub number_fits : (fs : List Fraction) (d i : ℕ) (f : Fraction) → is_too_fine fs ≡ false → Some d ≡ fitting_denominator (common_denominator fs) → i < length fs → f ≡ get_or fs i f
+    → Some (numerator_over d f) ≡ fitting_numerator (numerator_over d f)
+number_fits fs d i f fine is lt at =
+    let narrow : is_wide (common_denominator fs) f ≡ false = none_at (is_wide (common_denominator fs)) fs i f lt at (or-right _ _ fine) in
+    ap (λ b. cond b None (Some (numerator_over d f))) (sym (ap (λ n. is_wide n f) (fits (common_denominator fs) d is).0 ∙ narrow))
+
+pub point_is : (fs : List Fraction) (d : ℕ) (x : Point) → Some d ≡ fitting_denominator (common_denominator fs) → x.p ≡ map (numerator_over d) fs → x.d ≡ pos d → x ≡ point_in fs
+point_is fs d x is numbers denominator = ap₂ (λ p e. record { p = p; d = e }) numbers denominator ∙ ap (λ n. point_over n fs) (fits (common_denominator fs) d is).0

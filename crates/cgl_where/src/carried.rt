@@ -1,6 +1,6 @@
 //! What a reader of a point file carries from line to line.
 
-ghost use Rattle.std.specs.Prelude.{◌≡◌, ℕ, [], length, map, IfOk, None, false};
+ghost use Rattle.std.specs.Prelude.{◌≡◌, ℕ, [], map, IfOk, None, false};
 ghost use Rattle.cgl_where.specs.Carried.{Carries, FollowsLine, IsSound, TakesIn, carried_conditions, carried_value, named_at};
 ghost use Rattle.cgl_where.specs.Limits.{ArePositive};
 ghost use Rattle.cgl_num.specs.Conditions.{first_kind};
@@ -134,8 +134,7 @@ impl Carried {
     pub(crate) fn point(&self, alloc: Global, columns: &Columns) -> Result<Point, Memory>
         requires positive { ArePositive (map (λ c. carried_value columns.now self.now.named.items c.name) columns.now.cols) }
         requires within { is_too_fine (map (λ c. carried_value columns.now self.now.named.items c.name) columns.now.cols) ≡ false }
-        ensures point { IfOk result (λ x. x ≡ point_in (map (λ c. carried_value columns.now self.now.named.items c.name) columns.now.cols)) }
-        ensures sized { IfOk result (λ x. length x.p ≡ length columns.now.cols) }
+        ensures { IfOk result (λ x. x ≡ point_in (map (λ c. carried_value columns.now self.now.named.items c.name) columns.now.cols)) }
     {
         let values = column_values(alloc, columns, self.named.as_slice())?;
         point_in(alloc, values.as_slice())

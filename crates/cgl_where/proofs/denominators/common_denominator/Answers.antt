@@ -1,6 +1,16 @@
-use Rattle.std.proofs.Common.{arith}
+use Rattle.std.proofs.Common.{arith, ap, sym, length}
+use Rattle.std.proofs.lemmas.List.{drop_all}
+use Rattle.cgl_where.specs.PointFile.{common_denominator}
 use Rattle.cgl_where.proofs.LcmLaws.{folded, folded_not}
 use Rattle.cgl_where.proofs.denominators.common_denominator.Goals as goal
+
+pub values-init : goal.values-init
+values-init c = record {
+  place = omega arith;
+  value = ap common_denominator (sym (drop_all (length c.args.values.now) c.args.values.now (omega arith)));
+  positive = omega arith;
+  below = omega arith;
+}
 
 pub returns-in_default-clause-value : goal.returns-in_default-clause-value
 returns-in_default-clause-value c =

@@ -19,6 +19,28 @@ grown n next values f false is fits own others =
     ∙ ap (λ m. cond (is_wide m f) None (cond (list_any (is_wide m) values) None (Some m))) same
     ∙ ap₂ (λ wide some. cond wide None (cond some None (Some next))) own others)
 
+never : (b : Bool) (n : ℕ) → None ≡ cond b None (cond true None (Some n))
+never true n = refl
+never false n = refl
+
+not_grown : (n next : ℕ) (values : List Fraction) (f : Fraction) (above : Bool) → nat_lt (2 ^ 62) n ≡ above → cond above None (Some n) ≡ Some next
+    → list_any (is_wide next) values ≡ true → None ≡ grown_within n values f
+not_grown n next values f true is fits some = cc
+not_grown n next values f false is fits some =
+    let same : next ≡ n = cc in
+    never (is_wide next f) next
+    ∙ ap (λ wide. cond (is_wide next f) None (cond wide None (Some next))) (sym some)
+    ∙ ap (λ m. cond (is_wide m f) None (cond (list_any (is_wide m) values) None (Some m))) same
+    ∙ ap (λ above. cond above None (cond (is_wide n f) None (cond (list_any (is_wide n) values) None (Some n)))) (sym is)
+
+pub returns-then-any : goal.returns-then-any
+returns-then-any c =
+    let n = lcm (unsigned_abs c.args.f.den) c.args.d in
+    let next = c.in-Some.next in
+    not_grown n next c.args.values.now c.args.f (nat_lt (2 ^ 62) n) refl
+    (sym (ap (λ a. fitting_denominator (lcm a c.args.d)) c.den.ensures.value) ∙ sym c.lcm.ensures ∙ c.in-Some.is)
+    (sym (any_from_yields_List (is_wide next) _ _ c.any.result c.any.ensures.ran (YieldsList-from_slice c.args.values.now cc) (λ x b q k. search (rules, tests))) ∙ c.if-any.true)
+
 pub returns : goal.returns
 returns c =
     let n = lcm (unsigned_abs c.args.f.den) c.args.d in

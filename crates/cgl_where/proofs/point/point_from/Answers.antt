@@ -1,5 +1,8 @@
-use Rattle.std.proofs.Common.{◌∙◌, refl, arith, inl, inr, [], ◌+◌, ◌<◌, ◌≤◌, ℕ, List, length}
+use Rattle.std.proofs.Common.{ap, ◌∙◌, refl, arith, inl, inr, [], ◌+◌, ◌<◌, ◌≤◌, ℕ, List, length}
 use denote.Ref.{Bor}
+use Rattle.std.proofs.lemmas.List.{length-map}
+use Rattle.cgl_model.specs.Point.{Point}
+use Rattle.cgl_where.specs.PointFile.{numerator_over}
 use Rattle.cgl_where.proofs.CarriedLaws.{carries_sound, reads_fault, reads_first, reads_last, reads_next, reads_ready}
 use Rattle.cgl_where.proofs.ReadingLaws.{count_lines}
 use Rattle.cgl_where.proofs.point.point_from.Goals as goal
@@ -45,7 +48,7 @@ returns-in-Ok-point-clause-point c =
     let texts = c.as_slice-texts.result.now in
     let i = c.lines.i in
     let end : length texts ≤ i = omega arith in
-    reads_last c.args.bytes.now c.args.columns.now (i + 1) texts i _ end c.lines.invariant c.in-Ok-point.point c.in-Ok-point.ensures.point
+    reads_last c.args.bytes.now c.args.columns.now (i + 1) texts i _ end c.lines.invariant c.in-Ok-point.point c.in-Ok-point.ensures
 
 pub is_over-over-requires : goal.is_over-over-requires
 is_over-over-requires c = record {
@@ -78,7 +81,7 @@ pub returns-in-Some-clause-sized : goal.returns-in-Some-clause-sized
 returns-in-Some-clause-sized c = tt
 
 pub returns-in-Ok-point-clause-sized : goal.returns-in-Ok-point-clause-sized
-returns-in-Ok-point-clause-sized c = c.in-Ok-point.ensures.sized
+returns-in-Ok-point-clause-sized c = ap (λ (x : Point). length x.p) c.in-Ok-point.ensures ∙ length-map _ (numerator_over _) ∙ length-map c.args.columns.now.cols _
 
 pub returns-in-Ok-point-clause-fault : goal.returns-in-Ok-point-clause-fault
 returns-in-Ok-point-clause-fault c = tt
