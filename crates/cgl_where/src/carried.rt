@@ -86,7 +86,8 @@ impl Carried {
         let Some(column) = columns.find(name) else {
             return Ok(Some(6));
         };
-        if self.named[column].is_some() {
+        let named_before = self.named[column].is_some();
+        if named_before {
             return Ok(Some(14));
         }
         let Some(taken) = value(text) else {

@@ -33,7 +33,9 @@ impl<'a> Columns<'a> {
     {
         let mut names = Names::new(alloc);
         for column in model.cols.as_slice() {
-            names.push(column.name.as_slice())?;
+            let Ok(()) = names.push(column.name.as_slice()) else {
+                return Err(Memory);
+            };
         }
         Ok(Columns { model, names })
     }
