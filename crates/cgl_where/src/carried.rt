@@ -39,24 +39,6 @@ fn named_at(named: &[Option<Frac>], number: Option<usize>) -> Option<Frac>
     }
 }
 
-/// The value of each column.
-fn column_values(
-    alloc: Global,
-    columns: &Columns,
-    named: &[Option<Frac>],
-) -> Result<Vec<Frac>, Memory>
-    ensures { IfOk result (λ found. found.items ≡ map (λ c. carried_value columns.now named.now c.name) columns.now.cols) }
-{
-    let mut found = Vec::new(alloc);
-    for c in columns.model.cols.as_slice() {
-        let number = columns.find(c.name.as_slice());
-        let Ok(()) = found.push(named_at(named, number).unwrap_or(Frac::new(0, 1))) else {
-            return Err(Memory);
-        };
-    }
-    Ok(found)
-}
-
 impl Carried {
     /// Before the first line.
     pub(crate) fn new(alloc: Global, columns: &Columns) -> Result<Carried, Memory>
@@ -137,7 +119,13 @@ impl Carried {
         requires within { is_too_fine (map (λ c. carried_value columns.now self.now.named.items c.name) columns.now.cols) ≡ false }
         ensures { IfOk result (λ x. x ≡ point_in (map (λ c. carried_value columns.now self.now.named.items c.name) columns.now.cols)) }
     {
-        let values = column_values(alloc, columns, self.named.as_slice())?;
+        let mut values = Vec::new(alloc);
+        for c in columns.model.cols.as_slice() {
+            let found = named_at(self.named.as_slice(), columns.find(c.name.as_slice()));
+            let Ok(()) = values.push(found.unwrap_or(Frac::new(0, 1))) else {
+                return Err(Memory);
+            };
+        }
         point_in(alloc, values.as_slice())
     }
 }

@@ -1,6 +1,0 @@
-use Rattle.std.proofs.Common.{◌≡◌, map, take}
-use Rattle.cgl_where.specs.Carried.{carried_value}
-use Rattle.cgl_where.proofs.carried.column_values.Given as goal
-
-abbrev pub invariant-loop-c : goal.invariant-loop-c
-invariant-loop-c l = l.found.items ≡ map (λ c. carried_value l.columns l.named c.name) (take l.c-index l.c-items)
