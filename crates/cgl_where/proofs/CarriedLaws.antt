@@ -23,7 +23,7 @@ use Rattle.cgl_model.specs.Point.{Point}
 use Rattle.cgl_where.specs.Reading.{read_from}
 use Rattle.cgl_num.specs.Seen.{words}
 use Rattle.cgl_num.proofs.NameLaws.{is_found}
-use Rattle.cgl_where.proofs.ReadingLaws.{line_passes, line_stops, point_reads, within_limits}
+use Rattle.cgl_where.proofs.ReadingLaws.{line_passes, line_stops, point_reads, test_off, test_passed, within_limits}
 use Rattle.cgl_where.proofs.FrontLaws.{fault_over}
 use Rattle.cgl_where.specs.declared.carried.Carried.{Carried}
 use Rattle.cgl_where.specs.PointValue.{value}
@@ -122,14 +122,6 @@ conditions_same m before carried r c =
     ∙ ap is_too_fine (sym values_more)) (λ fine. refl)))))
 
 -- ---- one record more
-
-test_off : (b : Bool) (kind : ℕ) (o : Option ℕ) → cond b (Some kind) o ≡ None → b ≡ false
-test_off true kind o e = cc
-test_off false kind o e = refl
-
-test_passed : (b : Bool) (kind : ℕ) (o : Option ℕ) → cond b (Some kind) o ≡ None → o ≡ None
-test_passed true kind o e = cc
-test_passed false kind o e = e
 
 pub new_name : (m : Model) (before : List Record) (r : Record) → first_kind (value_conditions m before r) ≡ None → list_any (names_column (field 0 r)) before ≡ false
 new_name m before r e = test_off _ 14 _ (test_passed _ 6 _ (test_passed _ 3 _ e))

@@ -80,22 +80,22 @@ within_limits bytes m before r within =
 
 -- ---- a line without fault
 
-passed : (b : Bool) (kind : ℕ) (o : Option ℕ) → cond b (Some kind) o ≡ None → o ≡ None
-passed true kind o e = cc
-passed false kind o e = e
+pub test_off : (b : Bool) (kind : ℕ) (o : Option ℕ) → cond b (Some kind) o ≡ None → b ≡ false
+test_off true kind o e = cc
+test_off false kind o e = refl
 
-fine : (b : Bool) (kind : ℕ) → cond b (Some kind) None ≡ None → b ≡ false
-fine true kind e = cc
-fine false kind e = refl
+pub test_passed : (b : Bool) (kind : ℕ) (o : Option ℕ) → cond b (Some kind) o ≡ None → o ≡ None
+test_passed true kind o e = cc
+test_passed false kind o e = e
 
 fine_case : (m : Model) (before : List Record) (r : Record) → is_too_fine (values before) ≡ false → (k : Bool) → first_kind (cond k (value_conditions m before r) []) ≡ None → is_too_fine (values (before ++ cond k (r ∷ []) [])) ≡ false
-fine_case m before r so_far true e = fine _ 13 (passed _ 4 _ (passed _ 14 _ (passed _ 6 _ (passed _ 3 _ e))))
+fine_case m before r so_far true e = test_off _ 13 _ (test_passed _ 4 _ (test_passed _ 14 _ (test_passed _ 6 _ (test_passed _ 3 _ e))))
 fine_case m before r so_far false e = ap (λ l. is_too_fine (values l)) (append-nil before) ∙ so_far
 
 pub fine_after : (bytes : List ℕ) (m : Model) (before : List Record) (r : Record) → fault_after most_bytes bytes m before r ≡ None → is_too_fine (values before) ≡ false → is_too_fine (values (before ++ kept (r ∷ []))) ≡ false
 unfolding fault_after
 fine_after bytes m before r e so_far =
-    fine_case m before r so_far (is_kept r) (passed (nat_lt 4096 r.bytes) 11 _ (passed (is_over most_bytes bytes r.line) 12 _ e))
+    fine_case m before r so_far (is_kept r) (test_passed (nat_lt 4096 r.bytes) 11 _ (test_passed (is_over most_bytes bytes r.line) 12 _ e))
 
 -- ---- lines as code holds them
 
