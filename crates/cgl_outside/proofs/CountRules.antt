@@ -1,41 +1,26 @@
 -- What a result says, case by case, and the counts of failed calls.
-use Rattle.std.proofs.Common.{Bool, false, IsTrue, ◌≡◌, ◌⊎◌, inl, inr, ℕ, List, ◌≤◌, Result, Ok, Err, OnOk, OnErr, Option, Some, None, IsSome, arith, refl}
-use Rattle.std.specs.Option.{IsNone}
+use Rattle.std.proofs.Common.{Bool, true, false, IsTrue, ◌≡◌, ◌⊎◌, inl, inr, ℕ, List, ◌≤◌, Result, Ok, Err, OnOk, OnErr, Option, Some, None, IsSome, arith, refl}
+use Rattle.std.specs.Option.{IsNone, is_some}
 use Rattle.cgl_outside.specs.Shelf.{Files, Held, file_of, Lacks, Counts, risen}
 
-pub on_ok : {T E A B : Type 0} (result : Result T E) → (A → B) → OnOk result A → OnOk result B
-on_ok (Ok value) step a = step a
-on_ok (Err error) step a = tt
+pub each_ok : {T E A : Type 0} (result : Result T E) → A → OnOk result A
+each_ok (Ok value) a = a
+each_ok (Err error) a = tt
 
-pub on_err : {T E A B : Type 0} (result : Result T E) → (A → B) → OnErr result A → OnErr result B
-on_err (Ok value) step a = tt
-on_err (Err error) step a = step a
-
-pub on_both : {T E A : Type 0} (result : Result T E) → OnOk result A → OnErr result A → A
-on_both (Ok value) ok err = ok
-on_both (Err error) ok err = err
+pub each_err : {T E A : Type 0} (result : Result T E) → A → OnErr result A
+each_err (Ok value) a = tt
+each_err (Err error) a = a
 
 pub some_not_none : {A : Type 0} (o : Option A) → IsSome o → IsNone o → ⊥
 some_not_none None some none = cc
 some_not_none (Some a) some none = cc
 
-pub not_some : {A : Type 0} (o : Option A) → (IsSome o → ⊥) → IsNone o
-not_some None never = refl
-not_some (Some a) never = absurd (never refl)
-
 pub false_not_true : (b : Bool) → b ≡ false → IsTrue b → ⊥
 false_not_true b is_false is_true = cc
-
-pub none_untold : {B : Type 0} → IsSome {T = Files} None → B
-none_untold told = absurd (cc)
 
 pub found_by : {A : Type 0} (o : Option A) (a : A) → Some a ≡ o → IsSome o
 found_by None a e = cc
 found_by (Some b) a e = refl
-
-pub none_is : {A : Type 0} (o : Option A) → None ≡ o → IsNone o
-none_is None e = refl
-none_is (Some a) e = cc
 
 pub no_excuse : {A B : Type 0} → (B → ⊥) → A ⊎ B → A
 no_excuse never (inl a) = a
@@ -74,12 +59,12 @@ one_fault before now rose never = record { later = rw rose (rises before); ok = 
 pub excused : {T E : Type 0} {error : E} {excuse : Type 0} (before now : ℕ) → now ≡ before → excuse → Counts {T = T} {E = E} before now (Err error) excuse
 excused before now same is = record { later = same_later before now same; ok = tt; failed = inr is; excused = λ _. same }
 
-pub counted : {T E : Type 0} (result : Result T E) (before now : ℕ) → OnOk result (now ≡ before) → OnErr result (now ≡ risen before) → Counts before now result ⊥
-counted (Ok value) before now same rose = no_fault before now same
-counted (Err error) before now same rose = one_fault before now rose (λ e. e)
+-- a call that is listed keeps some number of bytes
+pub keeps : (fault : Option ℕ) → is_some fault ≡ true → (keep : ℕ) × (fault ≡ Some keep)
+keeps None listed = cc
+keeps (Some keep) listed = (keep, refl)
 
-pub counted_there : {T E : Type 0} (result : Result T E) (held : Held) (name : List ℕ) (before now : ℕ) → IsSome held → OnOk result (now ≡ before)
-    → OnErr result (IsSome (file_of held name) → now ≡ risen before) → (Lacks held name → now ≡ before) → Counts before now result (Lacks held name)
-counted_there (Ok value) held name before now told same rose lacking = no_fault before now same
-counted_there (Err error) held name before now told same rose lacking =
-    by_file held name told (λ found. one_fault before now (rose found) (λ lacks. not_found held name lacks found)) (λ lacks. excused before now (lacking lacks) lacks)
+-- a call that is not listed
+pub keeps_none : (fault : Option ℕ) → is_some fault ≡ false → fault ≡ None
+keeps_none None unlisted = refl
+keeps_none (Some keep) unlisted = cc

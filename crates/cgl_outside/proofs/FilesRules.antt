@@ -1,6 +1,5 @@
 -- Laws in the form that goals have.
-use Rattle.std.proofs.Common.{append-nil, ◌≡◌, ◌++◌, cond, Bool, true, false, ℕ, List, Some, None, Option, refl, sym, ap, ◌∙◌, Vec, map, [], take, subst, unwrap_or, min, length, arith}
-use Rattle.std.proofs.lemmas.Grind.{common_steps}
+use Rattle.std.proofs.Common.{append-nil, ◌≡◌, ◌++◌, cond, Bool, true, false, ℕ, List, Some, None, Option, refl, sym, ap, ◌∙◌, Vec, map, [], take, subst, unwrap_or}
 use Rattle.std.specs.declared.alloc.Global.{Global}
 use Rattle.std.specs.Ordering.{nat_cmp, eq_by_cmp}
 use Rattle.std.specs.Cmp.{Equal-is}
@@ -62,7 +61,3 @@ none_kept files name bytes = sym (kept_nothing files name (get files name) refl)
 pub no_files : (m : Tree) → m.entries ≡ [] → files_of m ≡ empty
 unfolding files_of
 no_files m e = ap (λ es. from_entries (map entry_of es)) e
-
--- a front of at most all bytes
-pub front_is : (n keep : ℕ) (bytes : List ℕ) → n ≡ min keep (length bytes) → take n bytes ≡ take keep bytes
-front_is n keep bytes e = grind (arith, common_steps)

@@ -1,5 +1,7 @@
 -- Laws of what an output got.
-use Rattle.std.proofs.Common.{◌≡◌, IsSome, ℕ, List, ◌++◌, [], take, Some, None, Option, ap, sym, refl, append-nil, append_assoc}
+use Rattle.std.proofs.Common.{◌≡◌, IsSome, ℕ, List, ◌++◌, [], take, Some, None, Option, ap, ◌∙◌, sym, refl, append-nil, append_assoc}
+use Rattle.cgl_outside.specs.MemSink.{MemBytes, with_call, with_fault}
+use Rattle.cgl_outside.specs.Shelf.{risen}
 use Rattle.cgl_outside.specs.Sink.{with_put}
 
 -- nothing was put
@@ -26,3 +28,14 @@ pub put_told_before : (told : Option (List ℕ)) (a : List ℕ) → IsSome (with
 unfolding with_put
 put_told_before None a h = h
 put_told_before (Some old) a h = refl
+
+pub put_begun : (s old : MemBytes) (bytes : List ℕ) (n : ℕ) → s ≡ old → n ≡ risen s.puts → record s { bytes = bytes; puts = n } ≡ record (with_call old) { bytes = bytes }
+put_begun s old bytes n e call = ap (λ n. record s { bytes = bytes; puts = n }) call ∙ ap (λ s. record (with_call s) { bytes = bytes }) e
+
+pub put_failed : (s old : MemBytes) (bytes front : List ℕ) (n m : ℕ) → s ≡ old → bytes ≡ old.bytes ++ front → n ≡ risen s.puts → m ≡ risen s.faults
+    → record s { bytes = bytes; puts = n; faults = m } ≡ record (with_fault (with_call old)) { bytes = old.bytes ++ front }
+put_failed s old bytes front n m e is call fault =
+    ap (λ m. record s { bytes = bytes; puts = n; faults = m }) fault
+    ∙ ap (λ n. record (with_fault (record s { puts = n })) { bytes = bytes }) call
+    ∙ ap (λ s. record (with_fault (with_call s)) { bytes = bytes }) e
+    ∙ ap (λ xs. record (with_fault (with_call old)) { bytes = xs }) is

@@ -1,5 +1,6 @@
 //! The files and the outputs of the system. They tell no bytes, and count each error.
-ghost use Rattle.std.specs.Prelude.{◌≤◌, ◌≡◌, length, IfOk, true, false};
+ghost use Rattle.std.specs.Prelude.{◌≤◌, ◌≡◌, length, IfOk, Ok, true, false};
+ghost use Rattle.cgl_outside.specs.Shelf.{Counts};
 
 use crate::{Failed, Shelf, Sink};
 use std::fs::{File, OpenOptions};
@@ -25,16 +26,25 @@ impl<'a> Model for DirShelf<'a> {
     ghost view = { λ a. record { reads = a.read_faults; writes = a.write_faults } };
 }
 
+/// The value of a call of the system. An error counts as a failed call.
+fn counted<T>(answer: io::Result<T>, faults: &mut u64) -> Result<T, Failed>
+    ensures value { IfOk result (λ value. answer ≡ Ok value) }
+    ensures faults { Counts faults.old faults.new result ⊥ }
+{
+    match answer {
+        Ok(value) => Ok(value),
+        Err(_) => {
+            *faults = faults.saturating_add(1);
+            Err(Failed)
+        }
+    }
+}
+
 /// Gives 0 at and past the end of the file.
 fn read_piece(rt: &HostRuntime, name: &str, at: u64, buf: &mut [u8]) -> io::Result<usize>
     ensures { IfOk result (λ n. n ≤ length buf.new) }
 {
     File::open(rt, name)?.read_at(buf, at)
-}
-
-fn make_empty(rt: &HostRuntime, name: &str) -> io::Result<()> {
-    File::create(rt, name)?;
-    Ok(())
 }
 
 /// A file that takes nothing of a piece is an error.
@@ -69,34 +79,17 @@ impl Shelf for DirShelf<'_> {
 
     #[tactic(auto, unfolding(crate::specs::Shelf::file_of))]
     fn read_at(&mut self, name: &str, at: u64, buf: &mut [u8]) -> Result<usize, Failed> {
-        match read_piece(self.rt, name, at, buf) {
-            Ok(count) => Ok(count),
-            Err(_) => {
-                self.read_faults = self.read_faults.saturating_add(1);
-                Err(Failed)
-            }
-        }
+        counted(read_piece(self.rt, name, at, buf), &mut self.read_faults)
     }
 
     #[tactic(auto, unfolding(crate::specs::Shelf::with_file))]
     fn create(&mut self, name: &str) -> Result<(), Failed> {
-        match make_empty(self.rt, name) {
-            Ok(()) => Ok(()),
-            Err(_) => {
-                self.write_faults = self.write_faults.saturating_add(1);
-                Err(Failed)
-            }
-        }
+        counted(File::create(self.rt, name), &mut self.write_faults)?;
+        Ok(())
     }
 
     fn append(&mut self, name: &str, bytes: &[u8]) -> Result<(), Failed> {
-        match write_more(self.rt, name, bytes) {
-            Ok(()) => Ok(()),
-            Err(_) => {
-                self.write_faults = self.write_faults.saturating_add(1);
-                Err(Failed)
-            }
-        }
+        counted(write_more(self.rt, name, bytes), &mut self.write_faults)
     }
 }
 
@@ -158,12 +151,6 @@ impl Sink for StdSink<'_> {
     ghost faults = { λ s. s.faults };
 
     fn put(&mut self, bytes: &[u8]) -> Result<(), Failed> {
-        match write_out(self.rt, self.is_error, bytes) {
-            Ok(()) => Ok(()),
-            Err(_) => {
-                self.faults = self.faults.saturating_add(1);
-                Err(Failed)
-            }
-        }
+        counted(write_out(self.rt, self.is_error, bytes), &mut self.faults)
     }
 }

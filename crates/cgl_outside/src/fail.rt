@@ -1,6 +1,7 @@
 //! The faults that a test lists for a shelf in memory.
-ghost use Rattle.std.specs.Prelude.{◌≡◌, ◌+◌, take};
+ghost use Rattle.std.specs.Prelude.{◌≡◌, ◌+◌, ℕ, None, Some, take};
 ghost use Rattle.cgl_outside.specs.Fails.{is_for, listed_keep};
+ghost use Rattle.cgl_outside.specs.Shelf.{risen};
 
 /// A kind of call of a shelf: `read_at`, `create` or `append`.
 #[derive(Clone, Copy, Debug, PartialEq, Eq)]
@@ -26,11 +27,13 @@ fn is_entry(fail: &Fail, call: Call, earlier: u64) -> bool
     fail.call == call && fail.nth > 0 && fail.nth - 1 == earlier
 }
 
-/// How many bytes the first entry for a call keeps, where there is one. `earlier` calls of its kind
-/// came before.
-pub(crate) fn listed(fails: &[Fail], call: Call, earlier: u64) -> Option<u64>
-    ensures { result ≡ listed_keep fails.now call (earlier + 1) }
+/// Counts a call. Where it is listed, gives how many bytes the first entry for it keeps.
+pub(crate) fn begin(fails: &[Fail], call: Call, calls: &mut u64) -> Option<u64>
+    ensures listed { result ≡ listed_keep fails.now call (calls.old + 1) }
+    ensures call { calls.new ≡ risen calls.old }
 {
+    let earlier = *calls;
+    *calls = calls.saturating_add(1);
     for fail in fails {
         if is_entry(fail, call, earlier) {
             return Some(fail.keep);
@@ -39,9 +42,13 @@ pub(crate) fn listed(fails: &[Fail], call: Call, earlier: u64) -> Option<u64>
     None
 }
 
-/// The first bytes of a piece, so many or all.
-pub(crate) fn front(bytes: &[u8], keep: u64) -> &[u8]
-    ensures { result.now ≡ take keep bytes.now }
+/// The bytes of a piece that a call takes: all, or the front that is kept where it is to fail.
+pub(crate) fn kept(bytes: &[u8], fault: Option<u64>) -> &[u8]
+    ensures all { fault ≡ None → result.now ≡ bytes.now }
+    ensures front { (keep : ℕ) → fault ≡ Some keep → result.now ≡ take keep bytes.now }
 {
-    &bytes[..keep.min(bytes.len() as u64) as usize]
+    match fault {
+        None => bytes,
+        Some(keep) => &bytes[..keep.min(bytes.len() as u64) as usize],
+    }
 }

@@ -5,7 +5,7 @@ ghost use Rattle.std.specs.FinMap as map;
 ghost use Rattle.cgl_outside.specs.MemShelf.{next_read, next_create, next_append, with_read, with_create, with_append, with_read_fault, with_write_fault, with_write_refused, KeepsFront};
 ghost use Rattle.cgl_outside.specs.Shelf.{IsPiece, Lacks, Counts, file_of, with_file, with_more};
 
-use crate::fail::{front, listed};
+use crate::fail::{begin, kept};
 use crate::store::{copy_piece, extend, look_up, put};
 use crate::{Call, Fail, Failed, Shelf};
 use cgl_num::Memory;
@@ -105,101 +105,6 @@ impl MemShelf {
     {
         self.refused
     }
-
-    /// Counts a read. Says whether it is listed.
-    fn begin_read(&mut self) -> bool
-        ensures listed { IsTrue result ↔ IsSome (next_read self.old) }
-        ensures call { self.new ≡ with_read self.old }
-    {
-        let fault = listed(&self.fails, Call::Read, self.reads);
-        self.reads = self.reads.saturating_add(1);
-        fault.is_some()
-    }
-
-    /// Counts a create. Says whether it is listed.
-    fn begin_create(&mut self) -> bool
-        ensures listed { IsTrue result ↔ IsSome (next_create self.old) }
-        ensures call { self.new ≡ with_create self.old }
-    {
-        let fault = listed(&self.fails, Call::Create, self.creates);
-        self.creates = self.creates.saturating_add(1);
-        fault.is_some()
-    }
-
-    /// Counts an append. Where it is listed, gives how many bytes are kept.
-    fn begin_append(&mut self) -> Option<u64>
-        ensures listed { result ≡ next_append self.old }
-        ensures call { self.new ≡ with_append self.old }
-    {
-        let fault = listed(&self.fails, Call::Append, self.appends);
-        self.appends = self.appends.saturating_add(1);
-        fault
-    }
-
-    fn fail_read(&mut self)
-        ensures { self.new ≡ with_read_fault self.old }
-    {
-        self.failed_reads = self.failed_reads.saturating_add(1);
-    }
-
-    fn fail_write(&mut self)
-        ensures { self.new ≡ with_write_fault self.old }
-    {
-        self.failed_writes = self.failed_writes.saturating_add(1);
-    }
-
-    fn refuse_write(&mut self)
-        ensures { self.new ≡ with_write_refused self.old }
-    {
-        self.failed_writes = self.failed_writes.saturating_add(1);
-        self.refused = self.refused.saturating_add(1);
-    }
-
-    fn make_empty(&mut self, name: &str) -> Result<(), Failed>
-        ensures ok { OnOk result (self.new ≡ record self.old { files = map.insert self.old.files name.now [] }) }
-        ensures err { OnErr result (self.new ≡ with_write_refused self.old) }
-    {
-        match self.put_file(name, &[]) {
-            Ok(()) => Ok(()),
-            Err(_) => {
-                self.refuse_write();
-                Err(Failed)
-            }
-        }
-    }
-
-    fn add_all(&mut self, name: &str, bytes: &[u8]) -> Result<(), Failed>
-        ensures ok { OnOk result (Some self.new.files ≡ with_more (Some self.old.files) name.now bytes.now) }
-        ensures rest { OnOk result (self.new ≡ record self.old { files = self.new.files }) }
-        ensures found { OnOk result (IsSome (file_of (Some self.old.files) name.now)) }
-        ensures lacking { Lacks (Some self.old.files) name.now → self.new ≡ self.old }
-        ensures refused { OnErr result (IsSome (file_of (Some self.old.files) name.now) → self.new ≡ with_write_refused self.old) }
-        ensures err { OnErr result (self.new.files ≡ self.old.files) }
-    {
-        match extend(&mut self.files, name, bytes) {
-            Ok(true) => Ok(()),
-            Ok(false) => Err(Failed),
-            Err(_) => {
-                self.refuse_write();
-                Err(Failed)
-            }
-        }
-    }
-
-    /// The append is to fail, and this front of its bytes is kept.
-    fn add_front(&mut self, name: &str, front: &[u8])
-        ensures lacking { Lacks (Some self.old.files) name.now → self.new ≡ self.old }
-        ensures files { (self.new.files ≡ self.old.files) ⊎ (Some self.new.files ≡ with_more (Some self.old.files) name.now front.now) }
-        ensures rest { IsSome (file_of (Some self.old.files) name.now) → (self.new ≡ with_write_refused self.old)
-            ⊎ ((Some self.new.files ≡ with_more (Some self.old.files) name.now front.now)
-            × (self.new ≡ record (with_write_fault self.old) { files = self.new.files })) }
-    {
-        match extend(&mut self.files, name, front) {
-            Ok(true) => self.fail_write(),
-            Ok(false) => {}
-            Err(_) => self.refuse_write(),
-        }
-    }
 }
 
 impl Shelf for MemShelf {
@@ -224,12 +129,12 @@ impl Shelf for MemShelf {
         ensures listed { OnErr result (IsSome (file_of (Some self.old.files) name.now)
             → IsSome (next_read self.old) × (self.new ≡ with_read_fault (with_read self.old))) }
     {
-        let is_listed = self.begin_read();
-        let Some(file) = self.file(name) else {
+        let fault = begin(&self.fails, Call::Read, &mut self.reads);
+        let Some(file) = look_up(&self.files, name) else {
             return Err(Failed);
         };
-        if is_listed {
-            self.fail_read();
+        if fault.is_some() {
+            self.failed_reads = self.failed_reads.saturating_add(1);
             return Err(Failed);
         }
         Ok(copy_piece(file, at, buf))
@@ -245,11 +150,18 @@ impl Shelf for MemShelf {
         ensures listed { IsSome (next_create self.old) → self.new ≡ with_write_fault (with_create self.old) }
         ensures refused { OnErr result (IsNone (next_create self.old) → self.new ≡ with_write_refused (with_create self.old)) }
     {
-        if self.begin_create() {
-            self.fail_write();
+        if begin(&self.fails, Call::Create, &mut self.creates).is_some() {
+            self.failed_writes = self.failed_writes.saturating_add(1);
             return Err(Failed);
         }
-        self.make_empty(name)
+        match put(self.alloc, &mut self.files, name, &[]) {
+            Ok(()) => Ok(()),
+            Err(_) => {
+                self.failed_writes = self.failed_writes.saturating_add(1);
+                self.refused = self.refused.saturating_add(1);
+                Err(Failed)
+            }
+        }
     }
 
     fn append(&mut self, name: &str, bytes: &[u8]) -> Result<(), Failed>
@@ -264,10 +176,17 @@ impl Shelf for MemShelf {
         ensures fault { OnErr result (IsSome (file_of (Some self.old.files) name.now)
             → (self.new ≡ with_write_refused (with_append self.old)) ⊎ KeepsFront self.old self.new name.now bytes.now) }
     {
-        match self.begin_append() {
-            None => self.add_all(name, bytes),
-            Some(keep) => {
-                self.add_front(name, front(bytes, keep));
+        let fault = begin(&self.fails, Call::Append, &mut self.appends);
+        match extend(&mut self.files, name, kept(bytes, fault)) {
+            Ok(true) if fault.is_none() => Ok(()),
+            Ok(true) => {
+                self.failed_writes = self.failed_writes.saturating_add(1);
+                Err(Failed)
+            }
+            Ok(false) => Err(Failed),
+            Err(_) => {
+                self.failed_writes = self.failed_writes.saturating_add(1);
+                self.refused = self.refused.saturating_add(1);
                 Err(Failed)
             }
         }

@@ -1,10 +1,10 @@
 //! An output in memory, with the faults that a test lists.
-ghost use Rattle.std.specs.Prelude.{◌≡◌, ◌+◌, ◌++◌, ◌⊎◌, ℕ, [], take, OnOk, OnErr, IsNone, Some};
+ghost use Rattle.std.specs.Prelude.{◌≡◌, ◌+◌, ◌⊎◌, ℕ, [], take, OnOk, OnErr, IsNone, Some};
 ghost use Rattle.cgl_outside.specs.MemSink.{next_put, put_keep, with_call, with_fault, with_fault_refused, KeepsFront};
-ghost use Rattle.cgl_outside.specs.Shelf.{Counts};
+ghost use Rattle.cgl_outside.specs.Shelf.{Counts, risen};
 ghost use Rattle.cgl_outside.specs.Sink.{with_put};
 
-use crate::fail::front;
+use crate::fail::kept;
 use crate::{Failed, Sink};
 use std::alloc::Global;
 use std::marker::Model;
@@ -30,10 +30,13 @@ impl Model for MemSink {
     ghost view = { λ a. record { bytes = a.bytes.items; fails = a.fails.items; puts = a.puts; faults = a.faults; refused = a.refused } };
 }
 
-/// How many bytes the first pair for a put keeps, where there is one. `earlier` puts came before.
-fn listed_put(fails: &[(u64, u64)], earlier: u64) -> Option<u64>
-    ensures { result ≡ put_keep fails.now (earlier + 1) }
+/// Counts a put. Where it is listed, gives how many bytes the first pair for it keeps.
+fn begin(fails: &[(u64, u64)], puts: &mut u64) -> Option<u64>
+    ensures listed { result ≡ put_keep fails.now (puts.old + 1) }
+    ensures call { puts.new ≡ risen puts.old }
 {
+    let earlier = *puts;
+    *puts = puts.saturating_add(1);
     for &(nth, keep) in fails {
         if nth > 0 && nth - 1 == earlier {
             return Some(keep);
@@ -71,38 +74,6 @@ impl MemSink {
     {
         self.refused
     }
-
-    /// Counts a put. Where it is listed, gives how many bytes are kept.
-    fn begin_put(&mut self) -> Option<u64>
-        ensures listed { result ≡ next_put self.old }
-        ensures call { self.new ≡ with_call self.old }
-    {
-        let fault = listed_put(&self.fails, self.puts);
-        self.puts = self.puts.saturating_add(1);
-        fault
-    }
-
-    fn add_all(&mut self, bytes: &[u8]) -> Result<(), Failed>
-        ensures ok { OnOk result (self.new ≡ record self.old { bytes = self.old.bytes ++ bytes.now }) }
-        ensures err { OnErr result (self.new ≡ with_fault_refused self.old) }
-    {
-        let Ok(()) = self.bytes.extend_from_slice(bytes) else {
-            self.faults = self.faults.saturating_add(1);
-            self.refused = self.refused.saturating_add(1);
-            return Err(Failed);
-        };
-        Ok(())
-    }
-
-    /// The put is to fail, and this front of its bytes is kept.
-    fn add_front(&mut self, front: &[u8])
-        ensures { (self.new ≡ with_fault_refused self.old)
-            ⊎ (self.new ≡ record (with_fault self.old) { bytes = self.old.bytes ++ front.now }) }
-    {
-        if let Ok(()) = self.add_all(front) {
-            self.faults = self.faults.saturating_add(1);
-        }
-    }
 }
 
 impl Sink for MemSink {
@@ -121,12 +92,16 @@ impl Sink for MemSink {
         ensures rest { OnOk result (self.new ≡ record (with_call self.old) { bytes = self.new.bytes }) }
         ensures fault { OnErr result ((self.new ≡ with_fault_refused (with_call self.old)) ⊎ KeepsFront self.old self.new bytes.now) }
     {
-        match self.begin_put() {
-            None => self.add_all(bytes),
-            Some(keep) => {
-                self.add_front(front(bytes, keep));
-                Err(Failed)
-            }
+        let fault = begin(&self.fails, &mut self.puts);
+        let Ok(()) = self.bytes.extend_from_slice(kept(bytes, fault)) else {
+            self.faults = self.faults.saturating_add(1);
+            self.refused = self.refused.saturating_add(1);
+            return Err(Failed);
+        };
+        if fault.is_some() {
+            self.faults = self.faults.saturating_add(1);
+            return Err(Failed);
         }
+        Ok(())
     }
 }

@@ -1,11 +1,12 @@
 use Rattle.std.proofs.Common.{refl}
 use Rattle.cgl_outside.specs.Shelf.{file_of, with_file, with_more}
+use Rattle.cgl_outside.proofs.CountRules.{each_ok, each_err}
 use Rattle.cgl_outside.proofs.edge.DirShelfShelf.append.Goals as goal
 
-pub returns-in-Ok-clause-ok : goal.returns-in-Ok-clause-ok
+pub returns-clause-ok : goal.returns-clause-ok
 unfolding file_of with_file with_more
-returns-in-Ok-clause-ok c = refl
+returns-clause-ok c = each_ok c.counted.result refl
 
-pub returns-in-Err-clause-err : goal.returns-in-Err-clause-err
+pub returns-clause-err : goal.returns-clause-err
 unfolding file_of with_file with_more
-returns-in-Err-clause-err c = (0, refl)
+returns-clause-err c = each_err c.counted.result (0, refl)

@@ -1,15 +1,16 @@
-use Rattle.std.proofs.Common.{ap, ◌∙◌, Some, inl}
-use Rattle.cgl_outside.specs.MemShelf.{MemFiles, next_create, with_create, with_write_fault}
+use Rattle.std.proofs.Common.{ap, ◌∙◌, Some, inl, sym, arith}
+use Rattle.std.specs.Option.{is_some}
+use Rattle.cgl_outside.specs.declared.fail.Call.TheVariants.{Create}
+use Rattle.cgl_outside.specs.MemShelf.{MemFiles}
 use Rattle.cgl_outside.specs.Shelf.{with_file}
-use Rattle.cgl_outside.proofs.CountRules.{on_ok, on_err, on_both, false_not_true, some_not_none, not_some, one_fault, counted}
-use Rattle.cgl_outside.proofs.MemShelfRules.{files_named}
+use Rattle.cgl_outside.proofs.CountRules.{no_fault, one_fault, some_not_none}
+use Rattle.cgl_outside.proofs.MemShelfRules.{next_is, create_begun, create_failed, create_refused}
 use Rattle.cgl_outside.proofs.mem_shelf.MemShelfShelf.create.Goals as goal
 
-pub returns-then-begin_create : goal.returns-then-begin_create
-unfolding with_file
-returns-then-begin_create c =
-    let listed = c.begin_create.ensures.listed.0 c.if-begin_create.true in
-    let failed = c.fail_write.ensures ∙ ap with_write_fault c.begin_create.ensures.call in
+pub returns-then-is_some : goal.returns-then-is_some
+returns-then-is_some c =
+    let next = next_is Create (λ s. s.creates) _ _ _ _ c.self.view_is c.deref.ensures.value c.begin.ensures.listed in
+    let failed = create_failed _ _ _ c.saturating_add-self-inside.result c.self.view_is c.begin.ensures.call (omega arith) in
     record {
       ok = tt;
       err = inl (ap (λ (s : MemFiles). Some s.files) failed);
@@ -18,25 +19,40 @@ returns-then-begin_create c =
       unlisted = tt;
       rest = tt;
       listed = λ _. failed;
-      refused = λ none. absurd (some_not_none _ listed none);
+      refused = λ none. absurd (some_not_none _ (ap is_some next ∙ sym c.if-is_some.ensures) none);
     }
 
-pub returns : goal.returns
+pub returns-in-Ok : goal.returns-in-Ok
 unfolding with_file
-returns c =
-    let old = c.args.self.now in
-    let result = c.make_empty.result in
-    let next = c.make_empty.new.self in
-    let none = not_some (next_create old) (λ some. false_not_true _ c.if-begin_create.false (c.begin_create.ensures.listed.1 some)) in
-    let made = rw c.begin_create.ensures.call at c.make_empty.ensures.ok in
-    let refused = rw c.begin_create.ensures.call at c.make_empty.ensures.err in
+returns-in-Ok c =
+    let next = next_is Create (λ s. s.creates) _ _ _ _ c.self.view_is c.deref.ensures.value c.begin.ensures.listed in
+    let none = ap is_some next ∙ sym c.if-is_some.ensures in
+    let made = create_begun _ _ _ _ c.self.view_is c.begin.ensures.call in
     record {
-      ok = on_ok result (λ is. ap (λ (s : MemFiles). Some s.files) is) made;
-      err = on_err result (λ is. inl (ap (λ (s : MemFiles). Some s.files) is)) refused;
-      writes = counted result _ _ (on_ok result (λ is. ap (λ (s : MemFiles). s.failed_writes) is) made) (on_err result (λ is. ap (λ (s : MemFiles). s.failed_writes) is) refused);
-      reads = on_both result (on_ok result (λ is. ap (λ (s : MemFiles). s.failed_reads) is) made) (on_err result (λ is. ap (λ (s : MemFiles). s.failed_reads) is) refused);
-      unlisted = on_ok result (λ is. none) made;
-      rest = on_ok result (λ is. files_named (with_create old) _ _ is) made;
+      ok = ap Some (rw (ap (λ (s : MemFiles). s.files) c.self.view_is) at c.in-Ok.ensures.ok);
+      err = tt;
+      writes = no_fault _ _ (ap (λ (s : MemFiles). s.failed_writes) made);
+      reads = ap (λ (s : MemFiles). s.failed_reads) made;
+      unlisted = none;
+      rest = made;
       listed = λ some. absurd (some_not_none _ some none);
-      refused = on_err result (λ is none. is) refused;
+      refused = tt;
+    }
+
+pub returns-in-Err : goal.returns-in-Err
+returns-in-Err c =
+    let next = next_is Create (λ s. s.creates) _ _ _ _ c.self.view_is c.deref.ensures.value c.begin.ensures.listed in
+    let none = ap is_some next ∙ sym c.if-is_some.ensures in
+    let refused =
+    create_refused _ _ _ _ c.saturating_add-self-inside-in-Err.result c.saturating_add-self-inside-in-Err-2.result c.self.view_is c.in-Err.ensures.err
+    c.begin.ensures.call (omega arith) (omega arith) in
+    record {
+      ok = tt;
+      err = inl (ap (λ (s : MemFiles). Some s.files) refused);
+      writes = one_fault _ _ (ap (λ (s : MemFiles). s.failed_writes) refused) (λ never. never);
+      reads = ap (λ (s : MemFiles). s.failed_reads) refused;
+      unlisted = tt;
+      rest = tt;
+      listed = λ some. absurd (some_not_none _ some none);
+      refused = λ _. refused;
     }
