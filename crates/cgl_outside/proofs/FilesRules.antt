@@ -47,12 +47,9 @@ pub read_piece : (bytes file buf : List ℕ) (at n : ℕ) → ◌≡◌ {A = Opt
 read_piece bytes file buf at n e p = let P : Option (List ℕ) → Type 0 = λ o. IsPiece (unwrap_or o []) at buf n in subst P e p
 
 -- nothing was added: no byte of the piece is kept
-append_none : (xs : List ℕ) → xs ++ [] ≡ xs
-append_none xs = append-nil xs
-
 kept_nothing : (files : Files) (name : List ℕ) (o : Option (List ℕ)) → get files name ≡ o → option_map_or (λ x. Some (insert files name (x ++ []))) o (Some files) ≡ Some files
 kept_nothing files name None e = refl
-kept_nothing files name (Some old) e = ap (λ x. Some (insert files name x)) (append_none old) ∙ ap (λ f. Some f) (same_written files name old e)
+kept_nothing files name (Some old) e = ap (λ x. Some (insert files name x)) (append-nil old) ∙ ap (λ f. Some f) (same_written files name old e)
 
 pub none_kept : (files : Files) (name bytes : List ℕ) → Some files ≡ with_more (Some files) name (take 0 bytes)
 unfolding file_of with_file with_more

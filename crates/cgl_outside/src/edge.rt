@@ -49,10 +49,10 @@ fn read_piece(rt: &HostRuntime, name: &str, at: u64, buf: &mut [u8]) -> io::Resu
 
 /// A file that takes nothing of a piece is an error.
 fn write_more(rt: &HostRuntime, name: &str, bytes: &[u8]) -> io::Result<()> {
-    let mut options = OpenOptions::new();
-    options.append(true);
-    let mut file = options.open(rt, name)?;
-    file.write_all(bytes)
+    OpenOptions::new()
+        .append(true)
+        .open(rt, name)?
+        .write_all(bytes)
 }
 
 impl DirShelf<'_> {

@@ -1,6 +1,6 @@
 //! The faults that a test lists for a shelf in memory.
 ghost use Rattle.std.specs.Prelude.{◌≡◌, ◌+◌, ℕ, None, Some, take};
-ghost use Rattle.cgl_outside.specs.Fails.{is_for, listed_keep};
+ghost use Rattle.cgl_outside.specs.Fails.{listed_keep};
 ghost use Rattle.cgl_outside.specs.Shelf.{risen};
 
 /// A kind of call of a shelf: `read_at`, `create` or `append`.
@@ -21,12 +21,6 @@ pub struct Fail {
     pub keep: u64,
 }
 
-fn is_entry(fail: &Fail, call: Call, earlier: u64) -> bool
-    ensures { result ≡ is_for call (earlier + 1) fail.now }
-{
-    fail.call == call && fail.nth > 0 && fail.nth - 1 == earlier
-}
-
 /// Counts a call. Where it is listed, gives how many bytes the first entry for it keeps.
 pub(crate) fn begin(fails: &[Fail], call: Call, calls: &mut u64) -> Option<u64>
     ensures listed { result ≡ listed_keep fails.now call (calls.old + 1) }
@@ -35,7 +29,7 @@ pub(crate) fn begin(fails: &[Fail], call: Call, calls: &mut u64) -> Option<u64>
     let earlier = *calls;
     *calls = calls.saturating_add(1);
     for fail in fails {
-        if is_entry(fail, call, earlier) {
+        if fail.call == call && fail.nth > 0 && fail.nth - 1 == earlier {
             return Some(fail.keep);
         }
     }

@@ -1,5 +1,5 @@
 //! Files in memory, with the faults that a test lists.
-ghost use Rattle.std.specs.Prelude.{◌≡◌, ◌↔◌, ◌≤◌, ◌<◌, ◌⊎◌, List, ℕ, [], length, take, OnOk, OnErr, IfOk, IsSome, IsNone, IsTrue, Some};
+ghost use Rattle.std.specs.Prelude.{◌≡◌, ◌≤◌, ◌<◌, ◌⊎◌, List, ℕ, [], length, take, OnOk, OnErr, IfOk, IsSome, IsNone, Some};
 ghost use Rattle.std.specs.Option.{option_copied};
 ghost use Rattle.std.specs.FinMap as map;
 ghost use Rattle.cgl_outside.specs.MemShelf.{next_read, next_create, next_append, with_read, with_create, with_append, with_read_fault, with_write_fault, with_write_refused, KeepsFront};

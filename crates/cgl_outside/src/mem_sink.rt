@@ -1,6 +1,6 @@
 //! An output in memory, with the faults that a test lists.
 ghost use Rattle.std.specs.Prelude.{◌≡◌, ◌+◌, ◌⊎◌, ℕ, [], take, OnOk, OnErr, IsNone, Some};
-ghost use Rattle.cgl_outside.specs.MemSink.{next_put, put_keep, with_call, with_fault, with_fault_refused, KeepsFront};
+ghost use Rattle.cgl_outside.specs.MemSink.{next_put, put_keep, with_call, with_fault_refused, KeepsFront};
 ghost use Rattle.cgl_outside.specs.Shelf.{Counts, risen};
 ghost use Rattle.cgl_outside.specs.Sink.{with_put};
 
