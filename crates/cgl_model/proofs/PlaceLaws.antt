@@ -1,5 +1,5 @@
 -- Sides rise in the order of their places, and are found by it.
-use Rattle.std.proofs.Common.{◌≡◌, ℕ, zero, suc, ℤ, ◌+◌, ◌*◌, ◌^◌, ◌≤◌, ◌<◌, ◌==◌, ap, refl, sym, ◌∙◌, subst, arith, drop, true, false, List, [], ◌∷◌, ◌++◌, length, get_or, inl, inr}
+use Rattle.std.proofs.Common.{◌≡◌, ℕ, zero, suc, ℤ, ◌+◌, ◌*◌, ◌^◌, ◌≤◌, ◌<◌, ◌==◌, ◌&&◌, ap, refl, sym, ◌∙◌, subst, arith, drop, true, false, List, [], ◌∷◌, ◌++◌, length, get_or, inl, inr}
 use Rattle.std.specs.Prelude.{Option, Some, None, option_map}
 use Rattle.std.specs.List.{AllByRecursion}
 use Rattle.std.proofs.lemmas.Bool.{and_parts, cases_eq, cases_order, cond-false, cond-true, eqb-true, false_from_ne_true}
@@ -14,6 +14,8 @@ use Rattle.cgl_model.specs.declared.places.Place.TheVariants.{Row as RowPlace, B
 use Rattle.cgl_model.specs.declared.places.Side.{Side}
 use Rattle.cgl_model.specs.declared.integer_forms.RowShape.{RowShape}
 use Rattle.cgl_model.specs.declared.integer_forms.RowShape.TheVariants.{Free, Wide, Form}
+use Rattle.cgl_model.specs.contracts.places.EndPartialEq.TheImpl.{ghosts as ends}
+use Rattle.cgl_model.specs.contracts.places.PlacePartialEq.TheImpl.{ghosts as places}
 use Rattle.cgl_model.specs.FormList.{same_end, same_place, side_number}
 use Rattle.cgl_model.specs.Inequality.{Term}
 use Rattle.cgl_model.specs.IntegerForm.{column_sides, column_sides_from, lower_bound_side, lower_side, row_shapes, row_sides, row_sides_from, upper_bound_side, upper_side}
@@ -109,6 +111,19 @@ rank_less n (s ∷ sides) zero (suc k) d r h l = let rest = rank_least (rank s.p
 rank_less n (s ∷ sides) (suc i) (suc k) d r h l = rank_less (rank s.place + 1) sides i k d r.1 (omega arith) (omega arith)
 
 -- ---- the number of a side
+
+equal_end : (e f : End) → ends.eq e f ≡ same_end e f
+equal_end Lower Lower = refl
+equal_end Lower Upper = refl
+equal_end Upper Lower = refl
+equal_end Upper Upper = refl
+
+-- what `==` says of places
+pub equal_place : (a b : Place) → places.eq a b ≡ same_place a b
+equal_place (RowPlace r e) (RowPlace s f) = ap (λ same. r == s && same) (equal_end e f)
+equal_place (RowPlace r e) (Bound j f) = refl
+equal_place (Bound j e) (RowPlace r f) = refl
+equal_place (Bound j e) (Bound k f) = ap (λ same. j == k && same) (equal_end e f)
 
 same_ends : (e f : End) → same_end e f ≡ true → e ≡ f
 same_ends Lower Lower h = refl

@@ -1,19 +1,19 @@
 -- The steps by which sides are listed.
-use Rattle.std.proofs.Common.{◌≡◌, ℕ, zero, suc, ℤ, pos, negsuc, ◌+◌, ◌-◌, ◌*◌, ◌^◌, ◌≤◌, ◌<◌, ap, refl, sym, ◌∙◌, subst, arith, lit<, List, [], ◌∷◌, ◌++◌, length, get_or, take, to_z, of_z}
-use Rattle.std.specs.Prelude.{◌*ℤ◌, ◌-ℤ◌, unsigned_abs, FitsSigned, Option, Some}
+use Rattle.std.proofs.Common.{◌≡◌, ℕ, zero, suc, ℤ, pos, negsuc, ◌+◌, ◌-◌, ◌*◌, ◌^◌, ◌≤◌, ◌<◌, ap, ap₂, refl, sym, ◌∙◌, subst, arith, lit<, List, [], ◌∷◌, ◌++◌, length, get_or, take, to_z, of_z}
+use Rattle.std.specs.Prelude.{◌*ℤ◌, unsigned_abs, FitsSigned, Some}
 use Rattle.std.specs.Int.{w128}
 use Rattle.std.proofs.Math.IntN.{neg_ℤ}
 use Rattle.std.proofs.Math.Nat.{one-le-pow, pow-le-pow_right}
 use Rattle.std.proofs.lemmas.Int.{ints, to_z-of_z, unsigned_abs-mul}
-use Rattle.std.proofs.lemmas.List.{map_more}
+use Rattle.std.proofs.lemmas.List.{append_assoc, map_more}
 use Rattle.cgl_num.specs.Decimal.{Decimal, IsDecimal, places, places_in, scaled, scaled_by, times_power}
 use Rattle.cgl_num.specs.Fraction.{Fraction, lowest}
 use Rattle.cgl_model.specs.declared.places.End.TheVariants.{Upper}
-use Rattle.cgl_model.specs.declared.places.Place.{Place}
+use Rattle.cgl_model.specs.declared.mip.Column.{Column}
 use Rattle.cgl_model.specs.declared.places.Place.TheVariants.{Bound}
 use Rattle.cgl_model.specs.declared.places.Side.{Side}
 use Rattle.cgl_model.specs.Inequality.{Term}
-use Rattle.cgl_model.specs.IntegerForm.{bound_of, negated, upper_bound_side, upper_side}
+use Rattle.cgl_model.specs.IntegerForm.{bound_of, column_sides, lower_bound_side, negated, upper_bound_side}
 use Rattle.cgl_model.specs.Rising.{IsAboveAll, IsCoefficient, IsRising}
 use Rattle.cgl_model.specs.RowEntries.{RiseFrom}
 use Rattle.cgl_model.proofs.ColumnLaws.{negated_below}
@@ -108,21 +108,11 @@ numerator d k p m f valid e power same ten g h =
       narrow = omega (arith, magnitude, size);
     }
 
-pub upper_push : (before after : List Side) (j : ℕ) (limit : Option Decimal) (d : Decimal) (terms : List Term) (y z : ℤ) → limit ≡ Some d
-    → after ≡ before ++ record { place = Bound j Upper; ineq = record { terms = terms; rhs = z } } ∷ [] → terms ≡ (j, y) ∷ [] → y ≡ neg_ℤ (bound_of d).den → z ≡ neg_ℤ (bound_of d).num
-    → after ≡ before ++ upper_bound_side j limit
-upper_push before after j limit d terms y z is now e f g =
-    let S : List Term → ℤ → Side = λ ts r. record { place = Bound j Upper; ineq = record { terms = ts; rhs = r } } in
-    now ∙ ap (λ ts. before ++ S ts z ∷ []) (e ∙ ap (λ w. (j, w) ∷ []) f) ∙ ap (λ r. before ++ S ((j, neg_ℤ (bound_of d).den) ∷ []) r ∷ []) g ∙ ap (λ o. before ++ upper_bound_side j o) (sym is)
-
--- ---- ends of rows
-
-pub minus_narrow : (z : ℤ) → FitsSigned w128 z → unsigned_abs z < 2 ^ 127 → to_z w128 (of_z w128 (pos 0 -ℤ to_z w128 (of_z w128 z))) ≡ neg_ℤ z
-minus_narrow z h k = omega (arith, ints, h, k)
-
-pub upper_end_push : (before after : List Side) (place : Place) (terms opposite : List Term) (end : Option ℤ) (b z : ℤ) → end ≡ Some b
-    → after ≡ before ++ record { place = place; ineq = record { terms = opposite; rhs = z } } ∷ [] → opposite ≡ negated terms → z ≡ neg_ℤ b
-    → after ≡ before ++ upper_side place terms end
-upper_end_push before after place terms opposite end b z is now e f =
-    let S : List Term → ℤ → Side = λ ts r. record { place = place; ineq = record { terms = ts; rhs = r } } in
-    now ∙ ap (λ ts. before ++ S ts z ∷ []) e ∙ ap (λ r. before ++ S (negated terms) r ∷ []) f ∙ ap (λ o. before ++ upper_side place terms o) (sym is)
+-- the sides of a column's bounds, the upper one with these negatives
+pub upper_push : (before middle after : List Side) (j : ℕ) (c : Column) (d : Decimal) (y z : ℤ) → c.up ≡ Some d → middle ≡ before ++ lower_bound_side j c.lo
+    → after ≡ middle ++ record { place = Bound j Upper; ineq = record { terms = (j, y) ∷ []; rhs = z } } ∷ [] → y ≡ neg_ℤ (bound_of d).den → z ≡ neg_ℤ (bound_of d).num
+    → after ≡ before ++ column_sides j c
+upper_push before middle after j c d y z is first now f g =
+    let S : ℤ → ℤ → List Side = λ w r. record { place = Bound j Upper; ineq = record { terms = (j, w) ∷ []; rhs = r } } ∷ [] in
+    let upper : S y z ≡ upper_bound_side j c.up = ap₂ S f g ∙ ap (upper_bound_side j) (sym is) in
+    now ∙ ap₂ (λ xs ys. xs ++ ys) first upper ∙ append_assoc before (lower_bound_side j c.lo) (upper_bound_side j c.up)

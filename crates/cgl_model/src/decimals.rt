@@ -1,9 +1,9 @@
 ghost use Rattle.std.specs.List.{All};
 ghost use Rattle.std.specs.Option.{IfSome};
 ghost use Rattle.cgl_num.specs.Decimal.{IsDecimal};
-ghost use Rattle.cgl_model.specs.HasDecimals.{HasDecimals, IsDecimalColumn, IsDecimalRow};
+ghost use Rattle.cgl_model.specs.HasDecimals.{HasDecimals};
 
-use crate::{Column, Model, Row};
+use crate::Model;
 use cgl_num::Dec;
 
 fn limit_is_decimal(limit: Option<Dec>)
@@ -22,43 +22,19 @@ fn entries_are_decimals(entries: &[(u32, Dec)])
     }
 }
 
-fn row_has_decimals(row: &Row)
-    ensures { IsDecimalRow row.now }
-{
-    let _m = row.rhs.m();
-    limit_is_decimal(row.range);
-}
-
-fn column_has_decimals(column: &Column)
-    ensures { IsDecimalColumn column.now }
-{
-    limit_is_decimal(column.lo);
-    limit_is_decimal(column.up);
-    entries_are_decimals(column.entries.as_slice());
-}
-
-fn rows_have_decimals(rows: &[Row])
-    ensures { All IsDecimalRow rows.now }
-{
-    for row in rows {
-        row_has_decimals(row);
-    }
-}
-
-fn columns_have_decimals(columns: &[Column])
-    ensures { All IsDecimalColumn columns.now }
-{
-    for column in columns {
-        column_has_decimals(column);
-    }
-}
-
 impl Model {
     /// Its numbers are decimals within the limits, as contracts that speak of its sides need.
     pub fn has_decimals(&self)
         ensures { HasDecimals self.now }
     {
-        rows_have_decimals(self.rows.as_slice());
-        columns_have_decimals(self.cols.as_slice());
+        for row in self.rows.as_slice() {
+            let _m = row.rhs.m();
+            limit_is_decimal(row.range);
+        }
+        for column in self.cols.as_slice() {
+            limit_is_decimal(column.lo);
+            limit_is_decimal(column.up);
+            entries_are_decimals(column.entries.as_slice());
+        }
     }
 }

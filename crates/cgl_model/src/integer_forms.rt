@@ -159,30 +159,6 @@ impl Forms {
     }
 }
 
-fn is_end(a: End, b: End) -> bool
-    ensures { result ≡ same_end a b }
-{
-    match a {
-        End::Lower => matches!(b, End::Lower),
-        End::Upper => matches!(b, End::Upper),
-    }
-}
-
-fn is_place(a: Place, b: Place) -> bool
-    ensures { result ≡ same_place a b }
-{
-    match a {
-        Place::Row(row, end) => match b {
-            Place::Row(other, other_end) => row == other && is_end(end, other_end),
-            Place::Bound(_, _) => false,
-        },
-        Place::Bound(column, end) => match b {
-            Place::Bound(other, other_end) => column == other && is_end(end, other_end),
-            Place::Row(_, _) => false,
-        },
-    }
-}
-
 fn end_order(end: End) -> u64
     ensures { result ≡ end_rank end }
 {
@@ -234,7 +210,7 @@ fn number_in(sides: &[Side], place: Place) -> Option<u32>
         return None;
     }
     let side = &sides[number];
-    if is_place(place, side.place) {
+    if place == side.place {
         Some(number as u32)
     } else {
         None

@@ -19,104 +19,6 @@ fn negated_copy(alloc: Global, terms: &Terms) -> Result<Terms, Memory>
     Ok(copy)
 }
 
-/// The side at a finite lower end of a row.
-fn add_lower(
-    alloc: Global,
-    sides: &mut Seq<Side>,
-    place: Place,
-    terms: &Terms,
-    end: Option<i128>,
-) -> Result<(), Memory>
-    ensures { OnOk result (sides.new ≡ sides.old ++ lower_side place terms.now end) }
-{
-    let Some(rhs) = end else {
-        return Ok(());
-    };
-    let terms = terms.copy(alloc)?;
-    sides.push(Side {
-        place,
-        ineq: Ineq { terms, rhs },
-    })
-}
-
-/// The side at a finite upper end of a row.
-fn add_upper(
-    alloc: Global,
-    sides: &mut Seq<Side>,
-    place: Place,
-    terms: &Terms,
-    end: Option<i128>,
-) -> Result<(), Memory>
-    requires { IfSome end (λ e. unsigned_abs e < 2 ^ 127) }
-    ensures { OnOk result (sides.new ≡ sides.old ++ upper_side place terms.now end) }
-{
-    let Some(end) = end else {
-        return Ok(());
-    };
-    let terms = negated_copy(alloc, terms)?;
-    sides.push(Side {
-        place,
-        ineq: Ineq { terms, rhs: -end },
-    })
-}
-
-fn one_term(alloc: Global, column: u32, coefficient: i128) -> Result<Terms, Memory>
-    requires { IsCoefficient coefficient }
-    ensures { IfOk result (λ terms. terms ≡ (column, coefficient) ∷ []) }
-{
-    let mut terms = Terms::new(alloc);
-    terms.push((column, coefficient))?;
-    Ok(terms)
-}
-
-/// The side at a finite lower bound of a column.
-fn add_lower_bound(
-    alloc: Global,
-    sides: &mut Seq<Side>,
-    column: u32,
-    limit: Option<Dec>,
-) -> Result<(), Memory>
-    ensures { OnOk result (sides.new ≡ sides.old ++ lower_bound_side column limit) }
-{
-    let Some(limit) = limit else {
-        return Ok(());
-    };
-    let bound = bound_of(limit);
-    let terms = one_term(alloc, column, bound.den())?;
-    let place = Place::Bound(column, End::Lower);
-    sides.push(Side {
-        place,
-        ineq: Ineq {
-            terms,
-            rhs: bound.num(),
-        },
-    })
-}
-
-/// The side at a finite upper bound of a column.
-fn add_upper_bound(
-    alloc: Global,
-    sides: &mut Seq<Side>,
-    column: u32,
-    limit: Option<Dec>,
-) -> Result<(), Memory>
-    ensures { OnOk result (sides.new ≡ sides.old ++ upper_bound_side column limit) }
-{
-    let Some(limit) = limit else {
-        return Ok(());
-    };
-    let bound = bound_of(limit);
-    let terms = one_term(alloc, column, -bound.den())?;
-    let place = Place::Bound(column, End::Upper);
-    sides.push(Side {
-        place,
-        ineq: Ineq {
-            terms,
-            rhs: -bound.num(),
-        },
-    })
-}
-
 /// Appends the sides of a row.
 pub fn add_row_sides(
     alloc: Global,
@@ -130,33 +32,59 @@ pub fn add_row_sides(
     let RowShape::Form(form) = shape else {
         return Ok(());
     };
-    add_lower(
-        alloc,
-        sides,
-        Place::Row(row, End::Lower),
-        &form.coeffs,
-        form.lo,
-    )?;
-    add_upper(
-        alloc,
-        sides,
-        Place::Row(row, End::Upper),
-        &form.coeffs,
-        form.up,
-    )
+    if let Some(rhs) = form.lo {
+        let place = Place::Row(row, End::Lower);
+        let terms = form.coeffs.copy(alloc)?;
+        sides.push(Side {
+            place,
+            ineq: Ineq { terms, rhs },
+        })?;
+    }
+    if let Some(end) = form.up {
+        let place = Place::Row(row, End::Upper);
+        let terms = negated_copy(alloc, &form.coeffs)?;
+        sides.push(Side {
+            place,
+            ineq: Ineq { terms, rhs: -end },
+        })?;
+    }
+    Ok(())
+}
+
+/// Appends a side of one term.
+fn add_bound(
+    alloc: Global,
+    sides: &mut Seq<Side>,
+    place: Place,
+    term: (u32, i128),
+    rhs: i128,
+) -> Result<(), Memory>
+    requires { IsCoefficient term.1 }
+    ensures { OnOk result (sides.new ≡ sides.old ++ record { place = place; ineq = record { terms = term ∷ []; rhs = rhs } } ∷ []) }
+{
+    let mut terms = Terms::new(alloc);
+    terms.push(term)?;
+    sides.push(Side {
+        place,
+        ineq: Ineq { terms, rhs },
+    })
 }
 
 /// Appends the sides of a column's bounds.
-fn add_bound_sides(
-    alloc: Global,
-    sides: &mut Seq<Side>,
-    j: u32,
-    column: &Column,
-) -> Result<(), Memory>
+fn add_bounds(alloc: Global, sides: &mut Seq<Side>, j: u32, column: &Column) -> Result<(), Memory>
     ensures { OnOk result (sides.new ≡ sides.old ++ column_sides j column.now) }
 {
-    add_lower_bound(alloc, sides, j, column.lo)?;
-    add_upper_bound(alloc, sides, j, column.up)
+    if let Some(limit) = column.lo {
+        let place = Place::Bound(j, End::Lower);
+        let bound = bound_of(limit);
+        add_bound(alloc, sides, place, (j, bound.den()), bound.num())?;
+    }
+    if let Some(limit) = column.up {
+        let place = Place::Bound(j, End::Upper);
+        let bound = bound_of(limit);
+        add_bound(alloc, sides, place, (j, -bound.den()), -bound.num())?;
+    }
+    Ok(())
 }
 
 /// Appends the sides of all columns' bounds.
@@ -169,7 +97,7 @@ pub fn add_column_sides(
     ensures { OnOk result (sides.new ≡ sides.old ++ column_sides_from 0 columns.now) }
 {
     for (j, column) in columns.iter().enumerate() {
-        add_bound_sides(alloc, sides, j as u32, column)?;
+        add_bounds(alloc, sides, j as u32, column)?;
     }
     Ok(())
 }
