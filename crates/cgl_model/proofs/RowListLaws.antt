@@ -19,9 +19,25 @@ last_at (f ∷ []) j (suc i) e h is = cc
 last_at (f ∷ g ∷ entries) j zero e h is = absurd (omega arith)
 last_at (f ∷ g ∷ entries) j (suc i) e h is = last_at (g ∷ entries) j i e (omega arith) is
 
-pub last_is : (entries : Entries) (j : ℕ) (e : ℕ × Decimal) → slice_get entries (length entries - 1) ≡ Some e → (e.0 == j) ≡ ends_in_column j entries
+last_is : (entries : Entries) (j : ℕ) (e : ℕ × Decimal) → slice_get entries (length entries - 1) ≡ Some e → (e.0 == j) ≡ ends_in_column j entries
 last_is [] j e is = cc
 last_is (f ∷ entries) j e is = last_at (f ∷ entries) j (length (f ∷ entries) - 1) e (omega arith) is
+
+-- the last entry of `items`, which are the list's
+pub last_in : (entries items : Entries) (j : ℕ) (e : ℕ × Decimal) → items ≡ entries → slice_get items (length items - 1) ≡ Some e → (e.0 == j) ≡ ends_in_column j entries
+last_in entries items j e same is = last_is items j e is ∙ ap (ends_in_column j) same
+
+none_at : (entries : Entries) (i : ℕ) → i < length entries → slice_get entries i ≡ None → ⊥
+none_at [] i h is = omega arith
+none_at (e ∷ entries) zero h is = cc
+none_at (e ∷ entries) (suc i) h is = none_at entries i (omega arith) is
+
+none_is : (entries : Entries) (j : ℕ) → slice_get entries (length entries - 1) ≡ None → ends_in_column j entries ≡ false
+none_is [] j is = refl
+none_is (e ∷ entries) j is = absurd (none_at (e ∷ entries) (length (e ∷ entries) - 1) (omega arith) is)
+
+pub none_in : (entries items : Entries) (j : ℕ) → items ≡ entries → slice_get items (length items - 1) ≡ None → ends_in_column j entries ≡ false
+none_in entries items j same is = ap (ends_in_column j) (sym same) ∙ none_is items j is
 
 -- ---- one column more
 

@@ -53,24 +53,6 @@ impl std::marker::Model for Forms {
     ghost invariant = { λ it. IsSideList it.sides };
 }
 
-/// Appends the form of a row, and its sides.
-fn add_row(
-    alloc: Global,
-    shapes: &mut Seq<RowShape>,
-    sides: &mut Seq<Side>,
-    r: u32,
-    entries: &[(u32, Dec)],
-    row: &Row,
-) -> Result<(), Memory>
-    requires { RiseFrom 0 entries.now }
-    ensures shapes { OnOk result (shapes.new ≡ shapes.old ++ row_shape entries.now row.now ∷ []) }
-    ensures sides { OnOk result (sides.new ≡ sides.old ++ row_sides r (row_shape entries.now row.now)) }
-{
-    let shape = shape_of_row(alloc, entries, row)?;
-    add_row_sides(alloc, sides, r, &shape)?;
-    shapes.push(shape)
-}
-
 /// Fills empty lists with the forms of all rows, and their sides.
 fn add_rows(
     alloc: Global,
@@ -89,7 +71,9 @@ fn add_rows(
     let entries = lists.as_slice();
     let rows = m.rows.as_slice();
     for (r, row) in rows.iter().enumerate() {
-        add_row(alloc, shapes, sides, r as u32, entries[r].as_slice(), row)?;
+        let shape = shape_of_row(alloc, entries[r].as_slice(), row)?;
+        add_row_sides(alloc, sides, r as u32, &shape)?;
+        shapes.push(shape)?;
     }
     Ok(())
 }
@@ -138,11 +122,10 @@ impl Forms {
     pub fn row_form(&self, row: u32) -> Option<&RowForm>
         ensures { MatchOption result (form_at self.now.rows row ≡ None) (λ form. form_at self.now.rows row ≡ Some form.now) }
     {
-        match self.rows.as_slice().get(row as usize)? {
-            RowShape::Form(form) => Some(form),
-            RowShape::Free => None,
-            RowShape::Wide => None,
-        }
+        let RowShape::Form(form) = self.rows.as_slice().get(row as usize)? else {
+            return None;
+        };
+        Some(form)
     }
 
     /// Whether a number of the row, or an end of it, is too large for an integer form: in whole numbers it reaches
@@ -150,12 +133,7 @@ impl Forms {
     pub fn wide(&self, row: u32) -> bool
         ensures { result ≡ is_wide_at self.now.rows row }
     {
-        match self.rows.as_slice().get(row as usize) {
-            Some(RowShape::Wide) => true,
-            Some(RowShape::Free) => false,
-            Some(RowShape::Form(_)) => false,
-            None => false,
-        }
+        matches!(self.rows.as_slice().get(row as usize), Some(RowShape::Wide))
     }
 }
 
