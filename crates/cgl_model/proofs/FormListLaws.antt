@@ -13,9 +13,10 @@ use Rattle.cgl_model.specs.declared.places.End.TheVariants.{Lower, Upper}
 use Rattle.cgl_model.specs.declared.places.Place.{Place}
 use Rattle.cgl_model.specs.declared.places.Place.TheVariants.{Row as RowPlace, Bound}
 use Rattle.cgl_model.specs.declared.places.Side.{Side}
+use Rattle.cgl_model.specs.declared.integer_forms.RowForm.{RowForm}
 use Rattle.cgl_model.specs.declared.integer_forms.RowShape.{RowShape}
 use Rattle.cgl_model.specs.declared.integer_forms.RowShape.TheVariants.{Free, Wide, Form}
-use Rattle.cgl_model.specs.FormList.{FormList, same_end, same_place, side_number}
+use Rattle.cgl_model.specs.FormList.{FormList, form_in, same_end, same_place, side_number}
 use Rattle.cgl_model.specs.Inequality.{Term}
 use Rattle.cgl_model.specs.IntegerForm.{column_sides, column_sides_from, forms_of, lower_bound_side, lower_side, upper_bound_side, upper_side, row_shape, row_shapes, row_shapes_from, row_sides, row_sides_from, sides_of}
 use Rattle.cgl_model.specs.RowEntries.{row_entries, RiseFrom}
@@ -156,6 +157,13 @@ few_sides m first sides cols h k e f =
     let rows = length_shapes m 0 m.rows in
     let bounds = columns_count 0 cols in
     omega (arith, front, size, length-append first (column_sides_from 0 cols), count, rows, bounds)
+
+-- ---- the shape of a row
+
+pub no_form : (shape : RowShape) → ((f : RowForm) → shape ≡ Form f → ⊥) → form_in (Some shape) ≡ None
+no_form Free h = refl
+no_form Wide h = refl
+no_form (Form f) h = absurd (h f refl)
 
 -- ---- the number of a side
 

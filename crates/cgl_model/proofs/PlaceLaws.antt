@@ -2,7 +2,7 @@
 use Rattle.std.proofs.Common.{◌≡◌, ℕ, zero, suc, ℤ, ◌+◌, ◌*◌, ◌^◌, ◌≤◌, ◌<◌, ◌==◌, ◌&&◌, ap, refl, sym, ◌∙◌, subst, arith, drop, true, false, List, [], ◌∷◌, ◌++◌, length, get_or, inl, inr}
 use Rattle.std.specs.Prelude.{Option, Some, None, option_map}
 use Rattle.std.specs.List.{AllByRecursion}
-use Rattle.std.proofs.lemmas.Bool.{and_parts, cases_eq, cases_order, cond-false, cond-true, eqb-true, false_from_ne_true}
+use Rattle.std.proofs.lemmas.Bool.{cases_eq, cases_order, cond-false, cond-true, false_from_ne_true}
 use Rattle.std.proofs.lemmas.List.{get_or_default}
 use Rattle.cgl_num.specs.Decimal.{Decimal}
 use Rattle.cgl_model.specs.declared.mip.Column.{Column}
@@ -19,8 +19,8 @@ use Rattle.cgl_model.specs.contracts.places.PlacePartialEq.TheImpl.{ghosts as pl
 use Rattle.cgl_model.specs.FormList.{same_end, same_place, side_number}
 use Rattle.cgl_model.specs.Inequality.{Term}
 use Rattle.cgl_model.specs.IntegerForm.{column_sides, column_sides_from, lower_bound_side, lower_side, row_shapes, row_sides, row_sides_from, upper_bound_side, upper_side}
-use Rattle.cgl_model.specs.PlaceOrder.{end_rank, rank, RanksRise}
-use Rattle.cgl_model.proofs.FormListLaws.{length_shapes, number_at, plain}
+use Rattle.cgl_model.specs.PlaceOrder.{rank, RanksRise}
+use Rattle.cgl_model.proofs.FormListLaws.{length_shapes, number_at, plain, same_places}
 
 -- ---- ranks rise
 
@@ -78,11 +78,6 @@ columns_rise j (c ∷ cols) =
     let first = bounds_rise j c.lo c.up in
     rise_append (2 ^ 33 + 2 * j) (2 ^ 33 + 2 * (j + 1)) (column_sides j c) _ (omega arith) first.0 first.1 (columns_rise (j + 1) cols)
 
-pub row_sides_rise : (m : Model) (sides : List Side) → sides ≡ row_sides_from 0 (row_shapes m) → RanksRise 0 sides
-row_sides_rise m sides e =
-    let F : List Side → Type 0 = RanksRise 0 in
-    subst F (sym e) (rise_lower 0 (2 * 0) _ (omega arith) (rows_rise 0 (row_shapes m)).0)
-
 pub all_sides_rise : (m : Model) (first sides : List Side) (cols : List Column) → length m.rows ≤ 2 ^ 20 → first ≡ row_sides_from 0 (row_shapes m)
     → sides ≡ first ++ column_sides_from 0 cols → RanksRise 0 sides
 all_sides_rise m first sides cols h e f =
@@ -125,25 +120,8 @@ equal_place (RowPlace r e) (Bound j f) = refl
 equal_place (Bound j e) (RowPlace r f) = refl
 equal_place (Bound j e) (Bound k f) = ap (λ same. j == k && same) (equal_end e f)
 
-same_ends : (e f : End) → same_end e f ≡ true → e ≡ f
-same_ends Lower Lower h = refl
-same_ends Lower Upper h = cc
-same_ends Upper Lower h = cc
-same_ends Upper Upper h = refl
-
 same_rank : (a b : Place) → same_place a b ≡ true → rank a ≡ rank b
-same_rank (RowPlace r e) (RowPlace s f) h =
-    let both = and_parts (r == s) (same_end e f) h in
-    let number = eqb-true r s both.0 in
-    let ends = ap end_rank (same_ends e f both.1) in
-    omega (arith, number, ends)
-same_rank (RowPlace r e) (Bound j f) h = cc
-same_rank (Bound j e) (RowPlace r f) h = cc
-same_rank (Bound j e) (Bound k f) h =
-    let both = and_parts (j == k) (same_end e f) h in
-    let number = eqb-true j k both.0 in
-    let ends = ap end_rank (same_ends e f both.1) in
-    omega (arith, number, ends)
+same_rank a b h = ap rank (same_places a b h)
 
 apart : (place other : Place) → (rank place ≡ rank other → ⊥) → same_place place other ≡ false
 apart place other h = false_from_ne_true _ (λ e. h (same_rank place other e))

@@ -1,10 +1,9 @@
-ghost use Rattle.std.specs.Prelude.{◌≡◌, ℕ, ◌<◌, ◌≤◌, ◌^◌, ◌++◌, ◌∷◌, [], None, Some, length, slice_index_or, IfNone, IfOk, IfSome, MatchOption, OnOk};
+ghost use Rattle.std.specs.Prelude.{◌≡◌, ℕ, ◌<◌, ◌≤◌, ◌^◌, [], None, Some, length, slice_index_or, IfNone, IfOk, IfSome, MatchOption, OnOk};
 ghost use Rattle.cgl_model.specs.Absent.{IsNowhere, IsSideAt};
-ghost use Rattle.cgl_model.specs.FormList.{form_at, is_wide_at, same_end, same_place, side_number};
+ghost use Rattle.cgl_model.specs.FormList.{form_at, is_wide_at, side_number};
 ghost use Rattle.cgl_model.specs.HasDecimals.{HasDecimals};
-ghost use Rattle.cgl_model.specs.IntegerForm.{forms_of, row_shape, row_shapes, row_sides, row_sides_from};
+ghost use Rattle.cgl_model.specs.IntegerForm.{forms_of, row_shapes, row_sides_from};
 ghost use Rattle.cgl_model.specs.PlaceOrder.{end_rank, rank, IsSideList, RanksRise};
-ghost use Rattle.cgl_model.specs.RowEntries.{RiseFrom};
 
 use crate::row_lists::entries_of_rows;
 use crate::row_shape::shape_of_row;
@@ -133,7 +132,12 @@ impl Forms {
     pub fn wide(&self, row: u32) -> bool
         ensures { result ≡ is_wide_at self.now.rows row }
     {
-        matches!(self.rows.as_slice().get(row as usize), Some(RowShape::Wide))
+        match self.rows.as_slice().get(row as usize) {
+            Some(RowShape::Wide) => true,
+            Some(RowShape::Free) => false,
+            Some(RowShape::Form(_)) => false,
+            None => false,
+        }
     }
 }
 

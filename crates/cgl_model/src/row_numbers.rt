@@ -25,28 +25,6 @@ pub enum Refusal {
     Memory,
 }
 
-/// Appends 10^k times a number, with its column.
-fn push_scaled(
-    coeffs: &mut Seq<(u32, i128)>,
-    k: u32,
-    column: u32,
-    number: Dec,
-) -> Result<(), Refusal>
-    requires within { k ≤ 30 }
-    requires whole { places number ≤ k }
-    ensures value { OnOk result (coeffs.new ≡ coeffs.old ++ (column, scaled k number) ∷ []) }
-    ensures narrow { OnOk result (unsigned_abs (scaled k number) < 2 ^ 100) }
-    ensures wide { IfErr result (λ e. e ≡ Refusal.Wide → 2 ^ 100 ≤ unsigned_abs (scaled k number)) }
-{
-    let Some(coefficient) = scale(k, number) else {
-        return Err(Refusal::Wide);
-    };
-    let Ok(()) = coeffs.push((column, coefficient)) else {
-        return Err(Refusal::Memory);
-    };
-    Ok(())
-}
-
 fn scale_entries(alloc: Global, k: u32, entries: &[(u32, Dec)]) -> Result<Seq<(u32, i128)>, Refusal>
     requires within { k ≤ 30 }
     requires whole { All (λ e. places e.1 ≤ k) entries.now }
@@ -56,7 +34,12 @@ fn scale_entries(alloc: Global, k: u32, entries: &[(u32, Dec)]) -> Result<Seq<(u
 {
     let mut coeffs = Seq::new(alloc);
     for entry in entries {
-        push_scaled(&mut coeffs, k, entry.0, entry.1)?;
+        let Some(coefficient) = scale(k, entry.1) else {
+            return Err(Refusal::Wide);
+        };
+        let Ok(()) = coeffs.push((entry.0, coefficient)) else {
+            return Err(Refusal::Memory);
+        };
     }
     Ok(coeffs)
 }

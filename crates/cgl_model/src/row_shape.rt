@@ -8,12 +8,10 @@ ghost use Rattle.cgl_model.specs.Rising.{IsAboveAll};
 ghost use Rattle.cgl_model.specs.RowEntries.{RiseFrom};
 
 use crate::row_numbers::{Refusal, RowNumbers, scale_row};
-use crate::scaling::places_of_row;
+use crate::scaling::{WIDE, places_of_row};
 use crate::{Row, RowForm, RowKind, RowShape, Terms};
 use cgl_num::{Dec, Memory};
 use std::alloc::Global;
-
-const WIDE: u128 = 1 << 100;
 
 fn lower_end(kind: RowKind, rhs: i128, range: Option<i128>) -> Option<i128>
     requires rhs { unsigned_abs rhs < 2 ^ 100 }
@@ -96,18 +94,6 @@ fn divide_range(range: Option<i128>, divisor: i128) -> Option<i128>
     }
 }
 
-/// Appends a term, where its coefficient is not 0.
-fn push_term(terms: &mut Terms, column: u32, coefficient: i128) -> Result<(), Memory>
-    requires column { IsAboveAll terms.old column }
-    requires narrow { unsigned_abs coefficient < 2 ^ 100 }
-    ensures { OnOk result (terms.new ≡ terms.old ++ filter is_nonzero_term ((column, coefficient) ∷ [])) }
-{
-    if coefficient == 0 {
-        return Ok(());
-    }
-    terms.push((column, coefficient))
-}
-
 fn divide_terms(alloc: Global, coeffs: &[(u32, i128)], divisor: i128) -> Result<Terms, Memory>
     requires divisor { pos 0 ≤ℤ divisor }
     requires narrow { All (λ t. unsigned_abs t.1 < 2 ^ 100) coeffs.now }
@@ -116,7 +102,10 @@ fn divide_terms(alloc: Global, coeffs: &[(u32, i128)], divisor: i128) -> Result<
 {
     let mut terms = Terms::new(alloc);
     for term in coeffs {
-        push_term(&mut terms, term.0, divide(term.1, divisor))?;
+        let coefficient = divide(term.1, divisor);
+        if coefficient != 0 {
+            terms.push((term.0, coefficient))?;
+        }
     }
     Ok(terms)
 }
@@ -146,10 +135,9 @@ fn shape_of(alloc: Global, kind: RowKind, numbers: &RowNumbers) -> Result<RowSha
     ensures value { IfOk result (λ s. s ≡ shape_of_numbers kind numbers.now) }
     ensures narrow { IfOk result IsNarrowShape }
 {
-    if is_wide(lower_end(kind, numbers.rhs, numbers.range)) {
-        return Ok(RowShape::Wide);
-    }
-    if is_wide(upper_end(kind, numbers.rhs, numbers.range)) {
+    let lo = lower_end(kind, numbers.rhs, numbers.range);
+    let up = upper_end(kind, numbers.rhs, numbers.range);
+    if is_wide(lo) || is_wide(up) {
         return Ok(RowShape::Wide);
     }
     Ok(RowShape::Form(form_of_numbers(alloc, kind, numbers)?))

@@ -1,4 +1,4 @@
-ghost use Rattle.std.specs.Prelude.{◌≡◌, ℤ, pos, ◌*ℤ◌, ◌^◌, ◌<◌, ◌≤◌, max, unsigned_abs, MatchOption};
+ghost use Rattle.std.specs.Prelude.{◌≡◌, ℤ, pos, ◌*ℤ◌, ◌^◌, ◌<◌, ◌≤◌, unsigned_abs, MatchOption};
 ghost use Rattle.std.specs.Option.{IfSome};
 ghost use Rattle.cgl_num.specs.Decimal.{IsDecimal, places, scaled};
 ghost use Rattle.cgl_num.specs.Fraction.{IsLowest};
@@ -7,7 +7,8 @@ ghost use Rattle.cgl_model.specs.IntegerForm.{bound_of as bound, row_places};
 use crate::Row;
 use cgl_num::{Dec, Frac};
 
-const WIDE: u128 = 1 << 100;
+/// The magnitude from which a number is too large for an integer form.
+pub const WIDE: u128 = 1 << 100;
 
 /// The decimal places of a number.
 fn places_of(number: Dec) -> u32

@@ -1,7 +1,5 @@
-ghost use Rattle.std.specs.Prelude.{◌≡◌, ◌++◌, ◌∷◌, [], ◌<◌, ◌≤◌, ◌^◌, length, unsigned_abs, Option, IfOk, OnOk};
-ghost use Rattle.std.specs.Option.{IfSome};
-ghost use Rattle.cgl_model.specs.IntegerForm.{bound_of as bound, column_sides, column_sides_from, lower_bound_side, lower_side, negated, row_sides, upper_bound_side, upper_side};
-ghost use Rattle.cgl_model.specs.IntegerForm.{IsNarrowShape};
+ghost use Rattle.std.specs.Prelude.{◌≡◌, ◌++◌, ◌∷◌, [], ◌<◌, ◌≤◌, ◌^◌, length, IfOk, OnOk};
+ghost use Rattle.cgl_model.specs.IntegerForm.{IsNarrowShape, column_sides, column_sides_from, negated, row_sides};
 ghost use Rattle.cgl_model.specs.Rising.{IsCoefficient};
 
 use crate::scaling::bound_of;

@@ -1,20 +1,22 @@
-use Rattle.std.proofs.Common.{◌∙◌, ap, map, arith}
+use Rattle.std.proofs.Common.{◌∙◌, ◌++◌, ◌∷◌, [], ap, map, arith}
+use Rattle.std.specs.Int.{w128}
+use Rattle.std.proofs.lemmas.Int.{to_z-of_z}
 use Rattle.std.proofs.lemmas.List.{take_all}
-use Rattle.std.proofs.lemmas.Result.{err_from_is_err_and}
 use Rattle.cgl_model.specs.IntegerForm.{scaled_term}
-use Rattle.cgl_model.proofs.BuildLaws.{narrow_push, scaled_push, wide_at}
+use Rattle.cgl_model.proofs.BuildLaws.{narrow_push, narrow_signed, scaled_push, wide_at}
 use Rattle.cgl_model.proofs.row_numbers.scale_entries.Goals as goal
 
-pub returns-in_err-push_scaled-clause-wide : goal.returns-in_err-push_scaled-clause-wide
-returns-in_err-push_scaled-clause-wide c =
-    let p = err_from_is_err_and c.from_residual.result c.from_residual.ensures.1 in
-    rw (p.1, p.2) (λ is. wide_at c.args.k c.args.entries.now c.loop-entry.entry-index c.entry-item.result (omega arith) c.entry-item.is (c.in_err-push_scaled.ensures.wide is))
+pub returns-in_default-clause-wide : goal.returns-in_default-clause-wide
+returns-in_default-clause-wide c = λ is. wide_at c.args.k c.args.entries.now c.loop-entry.entry-index c.entry-item.result (omega arith) c.entry-item.is c.in_default.ensures.value
 
 pub loop-entry-preserved : goal.loop-entry-preserved
 loop-entry-preserved c =
+    let coefficient = c.in-Some.coefficient in
+    let pushed = c.in-Ok.ensures.ok ∙ ap (λ z. c.loop-entry.coeffs ++ (c.entry-item.result.0, z) ∷ []) (to_z-of_z w128 coefficient (narrow_signed coefficient c.in-Some.ensures.narrow)) in
     record {
-      value = scaled_push c.args.k c.args.entries.now c.loop-entry.entry-index c.entry-item.result c.loop-entry.coeffs _ (omega arith) c.entry-item.is c.loop-entry.invariant.value c.in_ok-push_scaled.ensures.value;
-      narrow = narrow_push c.loop-entry.coeffs _ _ c.loop-entry.invariant.narrow c.in_ok-push_scaled.ensures.narrow c.in_ok-push_scaled.ensures.value;
+      value = scaled_push c.args.k c.args.entries.now c.loop-entry.entry-index c.entry-item.result c.loop-entry.coeffs _ (omega arith) c.entry-item.is c.loop-entry.invariant.value
+          (pushed ∙ ap (λ z. c.loop-entry.coeffs ++ (c.entry-item.result.0, z) ∷ []) c.in-Some.ensures.value);
+      narrow = narrow_push c.loop-entry.coeffs _ (c.entry-item.result.0, coefficient) c.loop-entry.invariant.narrow c.in-Some.ensures.narrow pushed;
     }
 
 pub returns-clause-value : goal.returns-clause-value

@@ -6,7 +6,6 @@ use Rattle.std.proofs.lemmas.Int.{ints}
 use Rattle.cgl_model.specs.IntegerForm.{lower_bound_side}
 use Rattle.cgl_model.proofs.SideListLaws.{upper_push}
 use Rattle.cgl_model.proofs.side_list.add_bounds.Goals as goal
-use Rattle.cgl_model.proofs.side_list.add_bounds.Goals.{in-Some+in_ok-add_bound, in_default}
 
 minus : (z : ℤ) → FitsSigned w128 z → FitsSigned w128 (neg_ℤ z) → to_z w128 (of_z w128 (pos 0 -ℤ to_z w128 (of_z w128 z))) ≡ neg_ℤ z
 minus z h k = omega (arith, ints, h, k)
