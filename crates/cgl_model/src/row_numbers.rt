@@ -1,4 +1,4 @@
-ghost use Rattle.std.specs.Prelude.{◌≡◌, ◌≤◌, ◌<◌, ◌^◌, ◌++◌, ◌∷◌, [], unsigned_abs, false, map, option_map, option_to_list, pos, true, IfErr, IfOk, OnOk};
+ghost use Rattle.std.specs.Prelude.{◌≡◌, ◌≤◌, ◌<◌, ◌^◌, ◌∷◌, unsigned_abs, false, map, option_map, option_to_list, pos, true, IfErr, IfOk};
 ghost use Rattle.std.specs.List.{All, list_any};
 ghost use Rattle.std.specs.Option.{IfSome};
 ghost use Rattle.cgl_num.specs.Decimal.{places, scaled};

@@ -1,10 +1,9 @@
-ghost use Rattle.std.specs.Prelude.{◌≡◌, ◌++◌, ◌∷◌, [], ◌≤ℤ◌, ◌<◌, ◌^◌, false, map, option_map, option_to_list, pos, unsigned_abs, IfOk, OnOk};
+ghost use Rattle.std.specs.Prelude.{◌≡◌, ◌≤ℤ◌, ◌<◌, ◌^◌, false, map, option_map, option_to_list, pos, unsigned_abs, IfOk};
 ghost use Rattle.std.specs.List.{All, filter, list_any};
 ghost use Rattle.std.specs.Option.{IfSome};
 ghost use Rattle.cgl_num.specs.Gcd.{gcd_of};
 ghost use Rattle.cgl_model.specs.Ends.{lower_end as lower, upper_end as upper};
 ghost use Rattle.cgl_model.specs.IntegerForm.{IsNarrowShape, divided, divided_row, form_of, is_nonzero_term, is_wide_number, row_numbers, row_shape, shape_of_numbers};
-ghost use Rattle.cgl_model.specs.Rising.{IsAboveAll};
 ghost use Rattle.cgl_model.specs.RowEntries.{RiseFrom};
 
 use crate::row_numbers::{Refusal, RowNumbers, scale_row};
@@ -25,14 +24,7 @@ fn lower_end(kind: RowKind, rhs: i128, range: Option<i128>) -> Option<i128>
             None => None,
         },
         RowKind::G => Some(rhs),
-        RowKind::E => match range {
-            Some(range) => Some(if range < 0 {
-                rhs - range.unsigned_abs() as i128
-            } else {
-                rhs
-            }),
-            None => Some(rhs),
-        },
+        RowKind::E => Some(rhs + range.unwrap_or(0).min(0)),
     }
 }
 
@@ -49,14 +41,7 @@ fn upper_end(kind: RowKind, rhs: i128, range: Option<i128>) -> Option<i128>
             Some(range) => Some(rhs + range.unsigned_abs() as i128),
             None => None,
         },
-        RowKind::E => match range {
-            Some(range) => Some(if range < 0 {
-                rhs
-            } else {
-                rhs + range.unsigned_abs() as i128
-            }),
-            None => Some(rhs),
-        },
+        RowKind::E => Some(rhs + range.unwrap_or(0).max(0)),
     }
 }
 
