@@ -23,3 +23,6 @@ returns-in_ok-add_bound-2 c =
     upper_push c.args.sides.now c.match-column.sides _ c.args.j c.args.column.now c.in-Some-up.limit _ _ c.in-Some-up.is lower c.in_ok-add_bound-2.ensures
     (minus c.den-in-Some-up.result fits' back' ∙ ap neg_ℤ (den ∙ ap (λ f. f.den) c.bound_of-bound-in-Some-up.ensures.value))
     (minus c.num-in-Some-up.result fits back ∙ ap neg_ℤ (num ∙ ap (λ f. f.num) c.bound_of-bound-in-Some-up.ensures.value))
+
+pub returns-in_default-up : goal.returns-in_default-up
+returns-in_default-up c = search rules
