@@ -13,7 +13,7 @@ use Rattle.std.specs.List.{filter, list_any}
 use Rattle.std.specs.Option.{IfSome}
 use Rattle.std.proofs.lemmas.List.Folds.{list_any-append}
 use Rattle.std.proofs.lemmas.List.Elements.{filter-append}
-use Rattle.std.proofs.Math.Seq.{drop-cons}
+use Rattle.std.proofs.Math.Seq.{drop-cons, drop-length}
 use Rattle.cgl_num.specs.Gcd.{gcd, gcd_of}
 use Rattle.cgl_num.specs.Decimal.{Decimal, places, scaled}
 use Rattle.cgl_model.specs.declared.mip.Row.{Row}
@@ -187,12 +187,8 @@ pub sides_some : (rhs range g r : ℤ) → g ≡ pos (gcd (unsigned_abs range) 0
 unfolding gcd_of
 sides_some rhs range g r e f = f ∙ ap (λ z. pos (gcd (unsigned_abs rhs) (unsigned_abs z))) e
 
-drop_all : (terms : List Term) → drop (length terms) terms ≡ []
-drop_all [] = refl
-drop_all (t ∷ terms) = drop_all terms
-
 pub gcd_start : (terms : List Term) (rest : List ℤ) (d : ℤ) → d ≡ pos (gcd_of rest) → d ≡ pos (gcd_of (map (λ t. t.1) (drop (length terms) terms) ++ rest))
-gcd_start terms rest d e = e ∙ sym (ap (λ xs. pos (gcd_of (map (λ t. t.1) xs ++ rest))) (drop_all terms))
+gcd_start terms rest d e = e ∙ sym (ap (λ xs. pos (gcd_of (map (λ t. t.1) xs ++ rest))) (drop-length terms))
 
 -- ---- divided numbers
 

@@ -4,6 +4,7 @@ use Rattle.std.specs.Prelude.{Option, Some, None, option_map, slice_get}
 use Rattle.std.specs.Option.{option_or}
 use Rattle.std.proofs.lemmas.Bool.{cases_eq, cond-true, cond-false, ne_eqb, eq-eqb}
 use Rattle.std.proofs.lemmas.List.{append-nil, get_or-set_other, get_or-set_same, length-set, length-take, length-take-le, take_all, take_more}
+use Rattle.std.proofs.Math.Seq.{drop-length}
 use Rattle.cgl_num.specs.Decimal.{Decimal}
 use Rattle.cgl_model.proofs.ColumnLaws.{entries_below}
 use Rattle.cgl_model.specs.declared.mip.Column.{Column}
@@ -160,11 +161,7 @@ later_column cols r j c before after h is first now =
     ∙ sym (ap (row_entries_from r 0) more ∙ row_push r 0 (take j cols) c ∙ ap (λ n. row_entries_from r 0 (take j cols) ++ onto_entries n (entry_at r c.entries) []) size)
 
 -- all lists were written anew
-drop_all : (lists : List Entries) → drop (length lists) lists ≡ []
-drop_all [] = refl
-drop_all (entries ∷ lists) = drop_all lists
-
 pub all_written : (items lists : List Entries) (len : ℕ) → len ≡ length items → length lists ≡ length items → take len (lists ++ drop (length lists) items) ≡ lists
 all_written items lists len h e =
-    let rest = ap (λ n. drop n items) e ∙ drop_all items in
+    let rest = ap (λ n. drop n items) e ∙ drop-length items in
     ap (λ xs. take len (lists ++ xs)) rest ∙ ap (take len) (append-nil lists) ∙ take_all len lists (omega (arith, h, e))
