@@ -9,7 +9,6 @@ pub mod SizeLaws
 pub mod PlaceLaws
 pub mod PointLaws
 pub mod ExtensionLaws
-pub mod LengthLaws
 pub mod CountLaws
 pub mod ValidLaws
 pub mod DecimalExtensionLaws

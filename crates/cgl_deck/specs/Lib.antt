@@ -3,4 +3,5 @@ pub mod Extended
 pub mod DeckText
 pub mod DeckLines
 pub mod DeckLength
+pub mod DeckOutput
 pub mod StoredDeck

@@ -3,14 +3,13 @@
 
 mod extend;
 mod laws;
-mod length;
 mod names;
+mod output;
 mod store;
 mod write;
 
 pub use extend::{ExtendError, with_cuts};
 pub use laws::{extension_laws, refusal_laws, round_trip_laws, text_laws};
-pub use length::deck_len;
 pub use names::cut_names;
 pub use store::write_deck;
-pub use write::deck_text;
+pub use write::{deck_len, deck_text};

@@ -1,9 +1,10 @@
-ghost use Rattle.std.specs.Prelude.{◌≡◌, [], ◌∷◌, ◌++◌, ◌&&◌, codes, false, flat_map, map, not, pos, int_lt, IfOk};
+ghost use Rattle.std.specs.Prelude.{◌≡◌, [], ◌∷◌, ◌++◌, ◌&&◌, codes, false, flat_map, length, map, not, pos, int_lt, IfOk};
 ghost use Rattle.cgl_num.specs.Decimal.{decimal_text};
-ghost use Rattle.cgl_num.specs.Growth.{Grows};
+ghost use Rattle.cgl_deck.specs.DeckLength.{most};
+ghost use Rattle.cgl_deck.specs.DeckOutput.{Longer};
 ghost use Rattle.cgl_deck.specs.DeckText.{both_text, bound_line, bound_text, column_text, columns_text, data_line, deck_text, is_same_decimal, is_zero_decimal, kind_word, lower_text, marker_text, name_text, range_text, rhs_text, row_name, row_text, section_text, sense_text};
 
-use crate::length::{bounds_len, ranges_len, right_sides_len};
+use crate::output::Output;
 use cgl_model::{Column, Model, Row, RowKind};
 use cgl_num::text::Builder;
 use cgl_num::{Dec, Memory};
@@ -11,20 +12,20 @@ use std::alloc::Global;
 
 // ---- numbers
 
-pub(crate) fn is_zero(number: Dec) -> bool
+fn is_zero(number: Dec) -> bool
     ensures { result ≡ is_zero_decimal number }
 {
     number.m() == 0
 }
 
 /// Whether of two finite bounds the upper one alone is written.
-pub(crate) fn is_upper_alone(lo: Dec, up: Dec) -> bool
+fn is_upper_alone(lo: Dec, up: Dec) -> bool
     ensures { result ≡ (is_zero_decimal lo && not (int_lt up.m (pos 0))) }
 {
     lo.m() == 0 && up.m() >= 0
 }
 
-pub(crate) fn is_same(a: Dec, b: Dec) -> bool
+fn is_same(a: Dec, b: Dec) -> bool
     ensures { result ≡ is_same_decimal a b }
 {
     a == b
@@ -33,43 +34,43 @@ pub(crate) fn is_same(a: Dec, b: Dec) -> bool
 // ---- lines
 
 /// A line with each word behind a space.
-fn add_line(text: &mut Builder, words: &[&[u8]])
-    ensures { Grows (data_line (map (λ word. word.now) words.now)) text.old text.new }
+fn add_line(output: &mut Output, words: &[&[u8]])
+    ensures { Longer (data_line (map (λ word. word.now) words.now)) output.old output.new }
 {
     for word in words {
-        text.append(b" ");
-        text.append(word);
+        output.append(b" ");
+        output.append(word);
     }
-    text.append(b"\n");
+    output.append(b"\n");
 }
 
 /// A line that ends with a number.
-fn add_number_line(text: &mut Builder, first: &[u8], second: &[u8], number: Dec)
-    ensures { Grows (data_line (first.now ∷ second.now ∷ decimal_text number ∷ [])) text.old text.new }
+fn add_number_line(output: &mut Output, first: &[u8], second: &[u8], number: Dec)
+    ensures { Longer (data_line (first.now ∷ second.now ∷ decimal_text number ∷ [])) output.old output.new }
 {
     let mut digits = [0; 48];
     let len = number.digits(&mut digits);
-    add_line(text, &[first, second, &digits[..len]]);
+    add_line(output, &[first, second, &digits[..len]]);
 }
 
 // ---- name and sense
 
-fn add_name(text: &mut Builder, name: &[u8])
-    ensures { Grows (name_text name.now) text.old text.new }
+fn add_name(output: &mut Output, name: &[u8])
+    ensures { Longer (name_text name.now) output.old output.new }
 {
-    text.append(b"NAME");
+    output.append(b"NAME");
     if name.is_empty() {
-        text.append(b"\n");
+        output.append(b"\n");
     } else {
-        add_line(text, &[name]);
+        add_line(output, &[name]);
     }
 }
 
-fn add_sense(text: &mut Builder, maximise: bool)
-    ensures { Grows (sense_text maximise) text.old text.new }
+fn add_sense(output: &mut Output, maximise: bool)
+    ensures { Longer (sense_text maximise) output.old output.new }
 {
     if maximise {
-        text.append(b"OBJSENSE\n MAX\n");
+        output.append(b"OBJSENSE\n MAX\n");
     }
 }
 
@@ -86,25 +87,25 @@ fn kind_letter(kind: RowKind) -> u8
     }
 }
 
-fn add_row(text: &mut Builder, row: &Row)
-    ensures { Grows (row_text row.now) text.old text.new }
+fn add_row(output: &mut Output, row: &Row)
+    ensures { Longer (row_text row.now) output.old output.new }
 {
     let kind = [kind_letter(row.kind)];
-    add_line(text, &[&kind, row.name.as_slice()]);
+    add_line(output, &[&kind, row.name.as_slice()]);
 }
 
-fn add_rows(text: &mut Builder, rows: &[Row])
-    ensures { Grows (flat_map row_text rows.now) text.old text.new }
+fn add_rows(output: &mut Output, rows: &[Row])
+    ensures { Longer (flat_map row_text rows.now) output.old output.new }
 {
     for row in rows {
-        add_row(text, row);
+        add_row(output, row);
     }
 }
 
 // ---- columns
 
 /// An empty name where there is no such row.
-pub(crate) fn name_of_row(rows: &[Row], row: u32) -> &[u8]
+fn name_of_row(rows: &[Row], row: u32) -> &[u8]
     ensures { result.now ≡ row_name rows.now row }
 {
     match rows.get(row as usize) {
@@ -113,183 +114,218 @@ pub(crate) fn name_of_row(rows: &[Row], row: u32) -> &[u8]
     }
 }
 
-fn add_column(text: &mut Builder, rows: &[Row], column: &Column)
-    ensures { Grows (column_text rows.now column.now) text.old text.new }
+fn add_column(output: &mut Output, rows: &[Row], column: &Column)
+    ensures { Longer (column_text rows.now column.now) output.old output.new }
 {
     let name = column.name.as_slice();
     let entries = column.entries.as_slice();
     for entry in entries {
-        add_number_line(text, name, name_of_row(rows, entry.0), entry.1);
+        add_number_line(output, name, name_of_row(rows, entry.0), entry.1);
     }
 }
 
-fn add_marker(text: &mut Builder, before: bool, integer: bool)
-    ensures { Grows (marker_text before integer) text.old text.new }
+fn add_marker(output: &mut Output, before: bool, integer: bool)
+    ensures { Longer (marker_text before integer) output.old output.new }
 {
     match (before, integer) {
-        (false, true) => text.append(b" MARKER 'MARKER' 'INTORG'\n"),
-        (true, false) => text.append(b" MARKER 'MARKER' 'INTEND'\n"),
+        (false, true) => output.append(b" MARKER 'MARKER' 'INTORG'\n"),
+        (true, false) => output.append(b" MARKER 'MARKER' 'INTEND'\n"),
         (true, true) | (false, false) => {}
     }
 }
 
 /// A column behind the marker that it needs.
-fn add_marked(text: &mut Builder, rows: &[Row], before: bool, column: &Column)
-    ensures { Grows (marker_text before column.now.integer ++ column_text rows.now column.now) text.old text.new }
+fn add_marked(output: &mut Output, rows: &[Row], before: bool, column: &Column)
+    ensures { Longer (marker_text before column.now.integer ++ column_text rows.now column.now) output.old output.new }
 {
-    add_marker(text, before, column.integer);
-    add_column(text, rows, column);
+    add_marker(output, before, column.integer);
+    add_column(output, rows, column);
 }
 
-fn add_columns(text: &mut Builder, rows: &[Row], columns: &[Column])
-    ensures { Grows (columns_text rows.now false columns.now) text.old text.new }
+fn add_columns(output: &mut Output, rows: &[Row], columns: &[Column])
+    ensures { Longer (columns_text rows.now false columns.now) output.old output.new }
 {
     let mut before = false;
     for column in columns {
-        add_marked(text, rows, before, column);
+        add_marked(output, rows, before, column);
         before = column.integer;
     }
-    add_marker(text, before, false);
+    add_marker(output, before, false);
 }
 
 // ---- sections with no header where they have no line
 
-fn add_rhs(text: &mut Builder, row: &Row)
-    ensures { Grows (rhs_text row.now) text.old text.new }
+fn add_rhs(output: &mut Output, row: &Row)
+    ensures { Longer (rhs_text row.now) output.old output.new }
 {
     if !is_zero(row.rhs) {
-        add_number_line(text, b"RHS", row.name.as_slice(), row.rhs);
+        add_number_line(output, b"RHS", row.name.as_slice(), row.rhs);
     }
 }
 
-fn add_right_sides(text: &mut Builder, rows: &[Row])
-    ensures { Grows (section_text (codes "RHS\n") (flat_map rhs_text rows.now)) text.old text.new }
+fn add_right_sides(output: &mut Output, rows: &[Row])
+    ensures { Longer (flat_map rhs_text rows.now) output.old output.new }
 {
-    if right_sides_len(rows) == 0 {
+    for row in rows {
+        add_rhs(output, row);
+    }
+}
+
+fn add_right_side_section(output: &mut Output, rows: &[Row])
+    ensures { Longer (section_text (codes "RHS\n") (flat_map rhs_text rows.now)) output.old output.new }
+{
+    let mut lines = Output::counting();
+    add_right_sides(&mut lines, rows);
+    if lines.len == 0 {
         return;
     }
-    text.append(b"RHS\n");
-    for row in rows {
-        add_rhs(text, row);
-    }
+    output.append(b"RHS\n");
+    add_right_sides(output, rows);
 }
 
-fn add_range(text: &mut Builder, row: &Row)
-    ensures { Grows (range_text row.now) text.old text.new }
+fn add_range(output: &mut Output, row: &Row)
+    ensures { Longer (range_text row.now) output.old output.new }
 {
     if let Some(range) = row.range {
-        add_number_line(text, b"RNG", row.name.as_slice(), range);
+        add_number_line(output, b"RNG", row.name.as_slice(), range);
     }
 }
 
-fn add_ranges(text: &mut Builder, rows: &[Row])
-    ensures { Grows (section_text (codes "RANGES\n") (flat_map range_text rows.now)) text.old text.new }
+fn add_ranges(output: &mut Output, rows: &[Row])
+    ensures { Longer (flat_map range_text rows.now) output.old output.new }
 {
-    if ranges_len(rows) == 0 {
+    for row in rows {
+        add_range(output, row);
+    }
+}
+
+fn add_range_section(output: &mut Output, rows: &[Row])
+    ensures { Longer (section_text (codes "RANGES\n") (flat_map range_text rows.now)) output.old output.new }
+{
+    let mut lines = Output::counting();
+    add_ranges(&mut lines, rows);
+    if lines.len == 0 {
         return;
     }
-    text.append(b"RANGES\n");
-    for row in rows {
-        add_range(text, row);
-    }
+    output.append(b"RANGES\n");
+    add_ranges(output, rows);
 }
 
 // ---- bounds
 
 /// A bound's record without a number.
-fn add_mark(text: &mut Builder, kind: &[u8], name: &[u8])
-    ensures { Grows (bound_line kind.now name.now []) text.old text.new }
+fn add_mark(output: &mut Output, kind: &[u8], name: &[u8])
+    ensures { Longer (bound_line kind.now name.now []) output.old output.new }
 {
-    add_line(text, &[kind, b"BND", name]);
+    add_line(output, &[kind, b"BND", name]);
 }
 
-fn add_value(text: &mut Builder, kind: &[u8], name: &[u8], value: Dec)
-    ensures { Grows (bound_line kind.now name.now (decimal_text value ∷ [])) text.old text.new }
+fn add_value(output: &mut Output, kind: &[u8], name: &[u8], value: Dec)
+    ensures { Longer (bound_line kind.now name.now (decimal_text value ∷ [])) output.old output.new }
 {
     let mut digits = [0; 48];
     let len = value.digits(&mut digits);
-    add_line(text, &[kind, b"BND", name, &digits[..len]]);
+    add_line(output, &[kind, b"BND", name, &digits[..len]]);
 }
 
-fn add_both(text: &mut Builder, name: &[u8], lo: Dec, up: Dec)
-    ensures { Grows (both_text name.now lo up) text.old text.new }
+fn add_both(output: &mut Output, name: &[u8], lo: Dec, up: Dec)
+    ensures { Longer (both_text name.now lo up) output.old output.new }
 {
     if is_upper_alone(lo, up) {
-        add_value(text, b"UP", name, up);
+        add_value(output, b"UP", name, up);
         return;
     }
-    add_value(text, b"LO", name, lo);
-    add_value(text, b"UP", name, up);
+    add_value(output, b"LO", name, lo);
+    add_value(output, b"UP", name, up);
 }
 
-fn add_lower(text: &mut Builder, name: &[u8], integer: bool, lower: Dec)
-    ensures { Grows (lower_text name.now integer lower) text.old text.new }
+fn add_lower(output: &mut Output, name: &[u8], integer: bool, lower: Dec)
+    ensures { Longer (lower_text name.now integer lower) output.old output.new }
 {
     if !is_zero(lower) {
-        add_value(text, b"LO", name, lower);
+        add_value(output, b"LO", name, lower);
     } else if integer {
-        add_mark(text, b"PL", name);
+        add_mark(output, b"PL", name);
     }
 }
 
-fn add_bound(text: &mut Builder, column: &Column)
-    ensures { Grows (bound_text column.now) text.old text.new }
+fn add_bound(output: &mut Output, column: &Column)
+    ensures { Longer (bound_text column.now) output.old output.new }
 {
     let name = column.name.as_slice();
     match (column.lo, column.up) {
-        (None, None) => add_mark(text, b"FR", name),
+        (None, None) => add_mark(output, b"FR", name),
         (None, Some(up)) => {
-            add_mark(text, b"MI", name);
-            add_value(text, b"UP", name, up);
+            add_mark(output, b"MI", name);
+            add_value(output, b"UP", name, up);
         }
-        (Some(lo), None) => add_lower(text, name, column.integer, lo),
+        (Some(lo), None) => add_lower(output, name, column.integer, lo),
         (Some(lo), Some(up)) => {
             if is_same(lo, up) {
-                add_value(text, b"FX", name, lo);
+                add_value(output, b"FX", name, lo);
             } else {
-                add_both(text, name, lo, up);
+                add_both(output, name, lo, up);
             }
         }
     }
 }
 
-fn add_bounds(text: &mut Builder, columns: &[Column])
-    ensures { Grows (section_text (codes "BOUNDS\n") (flat_map bound_text columns.now)) text.old text.new }
+fn add_bounds(output: &mut Output, columns: &[Column])
+    ensures { Longer (flat_map bound_text columns.now) output.old output.new }
 {
-    if bounds_len(columns) == 0 {
+    for column in columns {
+        add_bound(output, column);
+    }
+}
+
+fn add_bound_section(output: &mut Output, columns: &[Column])
+    ensures { Longer (section_text (codes "BOUNDS\n") (flat_map bound_text columns.now)) output.old output.new }
+{
+    let mut lines = Output::counting();
+    add_bounds(&mut lines, columns);
+    if lines.len == 0 {
         return;
     }
-    text.append(b"BOUNDS\n");
-    for column in columns {
-        add_bound(text, column);
-    }
+    output.append(b"BOUNDS\n");
+    add_bounds(output, columns);
 }
 
 // ---- all
 
-fn add_head(text: &mut Builder, model: &Model)
-    ensures { Grows (name_text model.now.name ++ sense_text model.now.maximise) text.old text.new }
+fn add_head(output: &mut Output, model: &Model)
+    ensures { Longer (name_text model.now.name ++ sense_text model.now.maximise) output.old output.new }
 {
-    add_name(text, model.name.as_slice());
-    add_sense(text, model.maximise);
+    add_name(output, model.name.as_slice());
+    add_sense(output, model.maximise);
 }
 
-fn add_matrix(text: &mut Builder, rows: &[Row], columns: &[Column])
-    ensures { Grows (codes "ROWS\n" ++ flat_map row_text rows.now ++ codes "COLUMNS\n" ++ columns_text rows.now false columns.now) text.old text.new }
+fn add_matrix(output: &mut Output, rows: &[Row], columns: &[Column])
+    ensures { Longer (codes "ROWS\n" ++ flat_map row_text rows.now ++ codes "COLUMNS\n" ++ columns_text rows.now false columns.now) output.old output.new }
 {
-    text.append(b"ROWS\n");
-    add_rows(text, rows);
-    text.append(b"COLUMNS\n");
-    add_columns(text, rows, columns);
+    output.append(b"ROWS\n");
+    add_rows(output, rows);
+    output.append(b"COLUMNS\n");
+    add_columns(output, rows, columns);
 }
 
-fn add_sections(text: &mut Builder, rows: &[Row], columns: &[Column])
-    ensures { Grows (section_text (codes "RHS\n") (flat_map rhs_text rows.now)
-        ++ section_text (codes "RANGES\n") (flat_map range_text rows.now) ++ section_text (codes "BOUNDS\n") (flat_map bound_text columns.now)) text.old text.new }
+fn add_sections(output: &mut Output, rows: &[Row], columns: &[Column])
+    ensures { Longer (section_text (codes "RHS\n") (flat_map rhs_text rows.now)
+        ++ section_text (codes "RANGES\n") (flat_map range_text rows.now) ++ section_text (codes "BOUNDS\n") (flat_map bound_text columns.now)) output.old output.new }
 {
-    add_right_sides(text, rows);
-    add_ranges(text, rows);
-    add_bounds(text, columns);
+    add_right_side_section(output, rows);
+    add_range_section(output, rows);
+    add_bound_section(output, columns);
+}
+
+fn add_deck(output: &mut Output, model: &Model)
+    ensures { Longer (deck_text model.now) output.old output.new }
+{
+    let rows = model.rows.as_slice();
+    let columns = model.cols.as_slice();
+    add_head(output, model);
+    add_matrix(output, rows, columns);
+    add_sections(output, rows, columns);
+    output.append(b"ENDATA\n");
 }
 
 /// The canonical text of a model, as bytes. Its length is that of `deck_len`, and has no limit here.
@@ -301,12 +337,22 @@ fn add_sections(text: &mut Builder, rows: &[Row], columns: &[Column])
 pub fn deck_text(alloc: Global, model: &Model) -> Result<Vec<u8>, Memory>
     ensures { IfOk result (λ text. text.items ≡ deck_text model.now) }
 {
-    let rows = model.rows.as_slice();
-    let columns = model.cols.as_slice();
-    let mut text = Builder::new(alloc);
-    add_head(&mut text, model);
-    add_matrix(&mut text, rows, columns);
-    add_sections(&mut text, rows, columns);
-    text.append(b"ENDATA\n");
-    text.finish()
+    let mut output = Output {
+        len: 0,
+        bytes: Some(Builder::new(alloc)),
+    };
+    add_deck(&mut output, model);
+    match output.bytes {
+        Some(bytes) => bytes.finish(),
+        None => Err(Memory),
+    }
+}
+
+/// The length in bytes of the canonical text of a model, or the greatest u64 where the text is longer. Takes no memory.
+pub fn deck_len(model: &Model) -> u64
+    ensures { result ≡ most (length (deck_text model.now)) }
+{
+    let mut output = Output::counting();
+    add_deck(&mut output, model);
+    output.len
 }

@@ -4,7 +4,7 @@ use Rattle.cgl_deck.proofs.TurnLaws.{all_to_come, column_turn, columns_ended}
 use Rattle.cgl_deck.proofs.write.add_columns.Goals as goal
 
 pub loop-column-init : goal.loop-column-init
-loop-column-init c = all_to_come (columns_text c.args.rows.now false c.args.columns.now) c.args.text.now
+loop-column-init c = all_to_come (columns_text c.args.rows.now false c.args.columns.now) c.args.output.now
 
 pub loop-column-preserved : goal.loop-column-preserved
 loop-column-preserved c =

@@ -1,10 +1,10 @@
-use Rattle.std.proofs.Common.{length, drop, map}
+use Rattle.std.proofs.Common.{map}
 use Rattle.cgl_deck.specs.DeckText.{data_line}
 use Rattle.cgl_deck.proofs.TurnLaws.{all_to_come, line_ended, word_turn}
 use Rattle.cgl_deck.proofs.write.add_line.Goals as goal
 
 pub loop-word-init : goal.loop-word-init
-loop-word-init c = all_to_come (data_line (map (λ word. word.now) c.args.words.now)) c.args.text.now
+loop-word-init c = all_to_come (data_line (map (λ word. word.now) c.args.words.now)) c.args.output.now
 
 pub loop-word-preserved : goal.loop-word-preserved
 loop-word-preserved c =

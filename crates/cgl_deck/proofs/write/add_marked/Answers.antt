@@ -1,5 +1,5 @@
-use Rattle.cgl_num.proofs.GrowthLaws.{grows_then}
+use Rattle.cgl_deck.proofs.TurnLaws.{longer_then}
 use Rattle.cgl_deck.proofs.write.add_marked.Goals as goal
 
 pub returns : goal.returns
-returns c = grows_then _ _ _ _ _ c.add_marker.ensures c.add_column.ensures
+returns c = longer_then _ _ _ _ _ c.add_marker.ensures c.add_column.ensures

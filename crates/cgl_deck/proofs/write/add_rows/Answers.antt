@@ -1,6 +1,9 @@
 use Rattle.cgl_deck.specs.DeckText.{row_text}
-use Rattle.cgl_deck.proofs.TurnLaws.{item_turn, items_ended}
+use Rattle.cgl_deck.proofs.TurnLaws.{item_turn, items_ended, longer_nothing}
 use Rattle.cgl_deck.proofs.write.add_rows.Goals as goal
+
+pub loop-row-init : goal.loop-row-init
+loop-row-init c = longer_nothing c.args.output.now
 
 pub loop-row-preserved : goal.loop-row-preserved
 loop-row-preserved c =

@@ -1,5 +1,5 @@
-use Rattle.cgl_num.proofs.GrowthLaws.{grows_then}
+use Rattle.cgl_deck.proofs.TurnLaws.{longer_then}
 use Rattle.cgl_deck.proofs.write.add_sections.Goals as goal
 
 pub returns : goal.returns
-returns c = grows_then _ _ _ _ _ (grows_then _ _ _ _ _ c.add_right_sides.ensures c.add_ranges.ensures) c.add_bounds.ensures
+returns c = longer_then _ _ _ _ _ (longer_then _ _ _ _ _ c.add_right_side_section.ensures c.add_range_section.ensures) c.add_bound_section.ensures
