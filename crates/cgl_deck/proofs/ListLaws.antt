@@ -1,8 +1,8 @@
 -- Laws of lists that std lacks.
-use Rattle.std.proofs.Common.{◌≡◌, List, ℕ, suc, ◌+◌, ◌<◌, ◌≤◌, [], ◌∷◌, ◌++◌, length, get_or, drop, ap, refl, sym, ◌∙◌, Bool, true, false, ◌&&◌, not, nat_lt, Option, Some, None, inl, inr, append-nil, arith}
+use Rattle.std.proofs.Common.{◌≡◌, List, ℕ, suc, ◌+◌, ◌<◌, ◌≤◌, [], ◌∷◌, ◌++◌, length, get_or, drop, ap, refl, sym, ◌∙◌, Bool, true, false, ◌&&◌, not, nat_lt, cond, Some, None, inl, inr, append-nil, arith}
 use Rattle.std.specs.List.{list_all, prefix_len, position}
 use Rattle.std.proofs.lemmas.List.{drop_all}
-use Rattle.std.proofs.lemmas.Bool.{and_parts, cases_Bool, cond-false, le-ltb, ltb-false}
+use Rattle.std.proofs.lemmas.Bool.{and_parts, cases_Bool, cond-false, cond-true, le-ltb, lt-ltb}
 use Rattle.cgl_deck.proofs.TurnLaws.{next_item}
 
 pub nothing_left : {X : Type 0} (done more all : List X) → more ≡ [] → done ++ more ≡ all → done ≡ all
@@ -20,15 +20,29 @@ all_in_prefix p (x ∷ xs) le =
           absurd (omega arith)
     ]
 
+-- how many items pass before the first that fails
+abbrev pub passing : {X : Type 0} → (X → Bool) → List X → ℕ
+passing p xs = prefix_len (λ x. not (not (p x))) xs
+
+pub next_passes : {X : Type 0} (p : X → Bool) (xs : List X) (i : ℕ) (x : X) (b : Bool) → i < length xs → x ≡ get_or xs i x → b ≡ p x → b ≡ true
+    → passing p xs ≡ i + passing p (drop i xs) → passing p xs ≡ i + 1 + passing p (drop (i + 1) xs)
+next_passes p xs i x b lt is tested passes before =
+    let more : passing p (x ∷ drop (i + 1) xs) ≡ 1 + passing p (drop (i + 1) xs) = ap (λ c. cond (not (not c)) (1 + passing p (drop (i + 1) xs)) 0) (sym tested ∙ passes) in
+    let split : passing p (drop i xs) ≡ passing p (x ∷ drop (i + 1) xs) = ap (passing p) (next_item xs i x x lt is) in
+    omega arith
+
+-- one is found that fails
+pub first_fails : {X : Type 0} (p : X → Bool) (xs : List X) (i : ℕ) (x : X) (b : Bool) → i < length xs → x ≡ get_or xs i x → b ≡ p x → b ≡ false
+    → passing p xs ≡ i + passing p (drop i xs) → position (λ y. not (p y)) xs ≡ Some i
+first_fails p xs i x b lt is tested fails before =
+    let none : passing p (x ∷ drop (i + 1) xs) ≡ 0 = ap (λ c. cond (not (not c)) (1 + passing p (drop (i + 1) xs)) 0) (sym tested ∙ fails) in
+    let split : passing p (drop i xs) ≡ passing p (x ∷ drop (i + 1) xs) = ap (passing p) (next_item xs i x x lt is) in
+    let at : passing p xs ≡ i = omega arith in
+    ap (λ n. cond (nat_lt n (length xs)) (Some n) None) at ∙ cond-true (nat_lt i (length xs)) (Some i) None (lt-ltb i (length xs) lt)
+
 -- none is found that fails, so all pass
-pub none_fails : {X : Type 0} (p : X → Bool) (xs : List X) (found : Option ℕ) → found ≡ position (λ x. not (p x)) xs → found ≡ None → list_all p xs ≡ true
-none_fails p xs found is none =
-    elim (cases_Bool (nat_lt (prefix_len (λ x. not (not (p x))) xs) (length xs))) [
-      | inl e ↦
-          let h : Some (prefix_len (λ x. not (not (p x))) xs) ≡ None = rw e at (sym is ∙ none) in
-          absurd (cc)
-      | inr e ↦ all_in_prefix p xs (ltb-false _ _ e)
-    ]
+pub all_pass : {X : Type 0} (p : X → Bool) (xs : List X) (i : ℕ) → length xs ≤ i → passing p xs ≡ i + passing p (drop i xs) → list_all p xs ≡ true
+all_pass p xs i le before = all_in_prefix p xs (omega arith)
 
 whole_prefix : {X : Type 0} (p : X → Bool) (xs : List X) → list_all p xs ≡ true → length xs ≤ prefix_len (λ x. not (not (p x))) xs
 whole_prefix p [] h = omega arith

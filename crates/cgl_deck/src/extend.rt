@@ -39,10 +39,12 @@ fn names_known_columns(model: &Model, cut: &Ineq) -> bool
     ensures { result ≡ is_known model.now cut.now }
 {
     let columns = model.cols.as_slice().len();
-    cut.terms
-        .as_slice()
-        .iter()
-        .all(|term| (term.0 as usize) < columns)
+    for term in cut.terms.as_slice() {
+        if term.0 as usize >= columns {
+            return false;
+        }
+    }
+    true
 }
 
 fn is_decimal_term(term: &(u32, i128)) -> bool
@@ -62,16 +64,28 @@ fn has_decimals(cut: &Ineq) -> bool
     Dec::whole(cut.rhs).is_some()
 }
 
+/// The first cut that names a column beyond the model.
 fn first_unknown(model: &Model, cuts: &[Ineq]) -> Option<usize>
-    ensures { result ≡ position (λ c. not (is_known model.now c)) cuts.now }
+    ensures { MatchOption result (IsTrue (list_all (is_known model.now) cuts.now)) (λ k. position (λ c. not (is_known model.now c)) cuts.now ≡ Some k) }
 {
-    cuts.iter().position(|cut| !names_known_columns(model, cut))
+    for k in 0..cuts.len() {
+        if !names_known_columns(model, &cuts[k]) {
+            return Some(k);
+        }
+    }
+    None
 }
 
+/// The first cut with an integer that is no decimal within the limits.
 fn first_not_decimal(cuts: &[Ineq]) -> Option<usize>
-    ensures { result ≡ position (λ c. not (is_decimal c)) cuts.now }
+    ensures { MatchOption result (IsTrue (list_all is_decimal cuts.now)) (λ k. position (λ c. not (is_decimal c)) cuts.now ≡ Some k) }
 {
-    cuts.iter().position(|cut| !has_decimals(cut))
+    for k in 0..cuts.len() {
+        if !has_decimals(&cuts[k]) {
+            return Some(k);
+        }
+    }
+    None
 }
 
 /// Whether the cuts have at most this many terms.

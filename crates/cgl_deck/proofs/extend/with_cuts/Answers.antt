@@ -1,42 +1,41 @@
 use Rattle.std.proofs.Common.{◌≡◌, ℕ, Err, IsErrOf, true, Some, is_some, ap, ◌∙◌, sym, rules}
 use Rattle.cgl_deck.specs.declared.extend.ExtendError.{ExtendError}
-use Rattle.cgl_deck.specs.Extended.{is_known, is_decimal, is_within_sizes}
+use Rattle.cgl_deck.specs.Extended.{is_within_sizes}
 use Rattle.cgl_deck.proofs.ExtensionLaws.{extension_stands}
-use Rattle.cgl_deck.proofs.ListLaws.{none_fails}
 use Rattle.cgl_deck.proofs.extend.with_cuts.Goals as goal
 
 not_decimal_is_no_unknown : {T P : Type 0} {j k : ℕ} → IsErrOf {T = T} (Err (ExtendError.NotDec j)) (ExtendError.Unknown k) → P
 not_decimal_is_no_unknown h = absurd (cc)
 
 pub returns-in-Some-first_not_decimal-clause-known : goal.returns-in-Some-first_not_decimal-clause-known
-returns-in-Some-first_not_decimal-clause-known c k h = none_fails (is_known c.args.model.now) c.args.cuts.now c.first_unknown.result c.first_unknown.ensures c.in_default.is
+returns-in-Some-first_not_decimal-clause-known c k h = c.in_default.ensures
 
 pub returns-in-Some-first_not_decimal-clause-unknown : goal.returns-in-Some-first_not_decimal-clause-unknown
 returns-in-Some-first_not_decimal-clause-unknown c k h = not_decimal_is_no_unknown h
 
 pub returns-then-not-fits-clause-too_many : goal.returns-then-not-fits-clause-too_many
 returns-then-not-fits-clause-too_many c h = record {
-  known = none_fails (is_known c.args.model.now) c.args.cuts.now c.first_unknown.result c.first_unknown.ensures c.in_default.is;
-  decimal = none_fails is_decimal c.args.cuts.now c.first_not_decimal.result c.first_not_decimal.ensures c.in_default-first_not_decimal.is;
+  known = c.in_default.ensures;
+  decimal = c.in_default-first_not_decimal.ensures;
   large = search rules;
 }
 
 pub extend-requires-clause-known : goal.extend-requires-clause-known
-extend-requires-clause-known c = none_fails (is_known c.args.model.now) c.args.cuts.now c.first_unknown.result c.first_unknown.ensures c.in_default.is
+extend-requires-clause-known c = c.in_default.ensures
 
 pub extend-requires-clause-decimal : goal.extend-requires-clause-decimal
-extend-requires-clause-decimal c = none_fails is_decimal c.args.cuts.now c.first_not_decimal.result c.first_not_decimal.ensures c.in_default-first_not_decimal.is
+extend-requires-clause-decimal c = c.in_default-first_not_decimal.ensures
 
 pub returns-in_default-extend-clause-memory : goal.returns-in_default-extend-clause-memory
 returns-in_default-extend-clause-memory c h =
-    let known = none_fails (is_known c.args.model.now) c.args.cuts.now c.first_unknown.result c.first_unknown.ensures c.in_default.is in
-    let decimal = none_fails is_decimal c.args.cuts.now c.first_not_decimal.result c.first_not_decimal.ensures c.in_default-first_not_decimal.is in
+    let known = c.in_default.ensures in
+    let decimal = c.in_default-first_not_decimal.ensures in
     let fits : is_within_sizes c.args.model.now c.args.cuts.now ≡ true = search rules in
     ap is_some (extension_stands c.args.model.now c.args.cuts.now known decimal fits)
 
 pub returns-clause-ok : goal.returns-clause-ok
 returns-clause-ok c =
-    let known = none_fails (is_known c.args.model.now) c.args.cuts.now c.first_unknown.result c.first_unknown.ensures c.in_default.is in
-    let decimal = none_fails is_decimal c.args.cuts.now c.first_not_decimal.result c.first_not_decimal.ensures c.in_default-first_not_decimal.is in
+    let known = c.in_default.ensures in
+    let decimal = c.in_default-first_not_decimal.ensures in
     let fits : is_within_sizes c.args.model.now c.args.cuts.now ≡ true = search rules in
     extension_stands c.args.model.now c.args.cuts.now known decimal fits ∙ ap Some (sym c.in-Ok.ensures.model)
