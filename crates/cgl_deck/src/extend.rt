@@ -1,10 +1,9 @@
-ghost use Rattle.std.specs.Prelude.{◌≡◌, ℕ, ◌+◌, ◌<◌, ◌≤◌, ◌^◌, List, [], ◌∷◌, ◌++◌, Some, is_some, length, map, position, slice_index_or, slice_set, sum_by, not, nat_lt, nat_le, zip, IfOk, IsErrOf, MatchOption, IsSome, IsTrue, OnOk};
+ghost use Rattle.std.specs.Prelude.{◌≡◌, ℕ, ◌+◌, ◌<◌, ◌≤◌, ◌^◌, [], ◌∷◌, ◌++◌, Some, is_some, length, map, position, sum_by, not, pos, nat_lt, nat_le, zip, IfOk, IsErrOf, MatchOption, IsSome, IsTrue, OnOk};
 ghost use Rattle.std.specs.List.{list_all};
 ghost use Rattle.cgl_num.specs.Decimal.{decimal_of};
 ghost use Rattle.cgl_model.specs.Rising.{IsRising};
-ghost use Rattle.cgl_model.specs.RowEntries.{onto_entries};
 ghost use Rattle.cgl_deck.specs.CutNames.{cut_names};
-ghost use Rattle.cgl_deck.specs.Extended.{AreRising, IsTooMany, coefficient_at, cut_entries, cut_row, decimal_or_zero, extended, extended_columns_from, is_decimal, is_known, is_within_sizes, term_count, with_rows};
+ghost use Rattle.cgl_deck.specs.Extended.{AreRising, IsTooMany, cut_row, decimal_or_zero, extended, extended_columns_from, is_decimal, is_known, is_within_sizes, term_count, with_rows};
 
 use crate::names::{copied_name, cut_names};
 use cgl_model::{Column, Entries, Ineq, Model, Name, Row, RowKind, Seq};
@@ -131,27 +130,14 @@ fn fits(model: &Model, cuts: &[Ineq]) -> bool
 
 // ---- copies
 
-fn add_entries(entries: &mut Entries, more: &[(u32, Dec)]) -> Result<(), Memory>
-    ensures { OnOk result (entries.new ≡ entries.old ++ more.now) }
+fn copied_entries(alloc: Global, entries: &[(u32, Dec)]) -> Result<Entries, Memory>
+    ensures { IfOk result (λ copy. copy ≡ entries.now) }
 {
-    for entry in more {
-        entries.push(*entry)?;
+    let mut copy = Entries::new(alloc);
+    for entry in entries {
+        copy.push(*entry)?;
     }
-    Ok(())
-}
-
-/// The entries, and more behind them.
-fn longer_entries(
-    alloc: Global,
-    entries: &[(u32, Dec)],
-    more: &[(u32, Dec)],
-) -> Result<Entries, Memory>
-    ensures { IfOk result (λ longer. longer ≡ entries.now ++ more.now) }
-{
-    let mut longer = Entries::new(alloc);
-    add_entries(&mut longer, entries)?;
-    add_entries(&mut longer, more)?;
-    Ok(longer)
+    Ok(copy)
 }
 
 // ---- rows
@@ -213,96 +199,26 @@ fn add_cut_rows(
 }
 
 /// The model's rows, and one for each cut behind them.
-fn all_rows(alloc: Global, model: &Model, names: &[Name], cuts: &[Ineq]) -> Result<Seq<Row>, Memory>
-    requires { IsTrue (list_all is_decimal cuts.now) }
-    ensures { IfOk result (λ rows. rows ≡ model.now.rows ++ map cut_row (zip names.now cuts.now)) }
-{
-    let mut rows = Seq::new(alloc);
-    add_row_copies(alloc, &mut rows, model.rows.as_slice())?;
-    add_cut_rows(alloc, &mut rows, names, cuts)?;
-    Ok(rows)
-}
-
-fn named_rows(alloc: Global, model: &Model, cuts: &[Ineq]) -> Result<Seq<Row>, Memory>
+fn all_rows(alloc: Global, model: &Model, cuts: &[Ineq]) -> Result<Seq<Row>, Memory>
     requires decimal { IsTrue (list_all is_decimal cuts.now) }
     requires few { length cuts.now < 2 ^ 32 }
     ensures { IfOk result (λ rows. rows ≡ model.now.rows ++ map cut_row (zip (cut_names model.now (length cuts.now)) cuts.now)) }
 {
     let names = cut_names(alloc, model, cuts.len() as u32)?;
-    all_rows(alloc, model, names.as_slice(), cuts)
+    let mut rows = Seq::new(alloc);
+    add_row_copies(alloc, &mut rows, model.rows.as_slice())?;
+    add_cut_rows(alloc, &mut rows, names.as_slice(), cuts)?;
+    Ok(rows)
 }
 
 // ---- columns
 
-/// An empty list for each column.
-fn empty_lists(alloc: Global, columns: usize) -> Result<Vec<Entries>, Memory>
-    ensures columns { IfOk result (λ lists. length lists.items ≡ columns) }
-    ensures empty { IfOk result (λ lists. (j : ℕ) → slice_index_or lists.items j [] ≡ []) }
+fn add_column_copy(alloc: Global, copies: &mut Seq<Column>, column: &Column) -> Result<(), Memory>
+    ensures { OnOk result (copies.new ≡ copies.old ++ column.now ∷ []) }
 {
-    let mut lists = Vec::new(alloc);
-    for _ in 0..columns {
-        let Ok(()) = lists.push(Entries::new(alloc)) else {
-            return Err(Memory);
-        };
-    }
-    Ok(lists)
-}
-
-fn add_term(lists: &mut [Entries], row: u32, term: &(u32, i128)) -> Result<(), Memory>
-    requires known { term.now.0 < length lists.old }
-    requires decimal { IsSome (decimal_of term.now.1) }
-    ensures { OnOk result (lists.new ≡ slice_set lists.old term.now.0 (slice_index_or lists.old term.now.0 [] ++ (row, decimal_or_zero term.now.1) ∷ [])) }
-{
-    let number = decimal(term.1);
-    lists[term.0 as usize].push((row, number))
-}
-
-/// Appends the terms of a cut, which has this row, to the lists of their columns.
-fn add_terms(lists: &mut [Entries], row: u32, cut: &Ineq) -> Result<(), Memory>
-    requires known { IsTrue (list_all (λ t. nat_lt t.0 (length lists.old)) cut.now.terms) }
-    requires decimal { IsTrue (is_decimal cut.now) }
-    ensures lists { OnOk result ((j : ℕ) → slice_index_or lists.new j [] ≡ slice_index_or lists.old j [] ++ onto_entries row (coefficient_at j cut.now.terms) []) }
-    ensures rising { IsRising cut.now.terms }
-{
-    for term in cut.terms.as_slice() {
-        add_term(lists, row, term)?;
-    }
-    Ok(())
-}
-
-/// For each column its entries in the rows of the cuts, which are numbered from `first` on.
-fn lists_of_cuts(
-    alloc: Global,
-    model: &Model,
-    first: u32,
-    cuts: &[Ineq],
-) -> Result<Vec<Entries>, Memory>
-    requires known { IsTrue (list_all (is_known model.now) cuts.now) }
-    requires decimal { IsTrue (list_all is_decimal cuts.now) }
-    requires rows { first + length cuts.now ≤ 2 ^ 20 }
-    ensures columns { IfOk result (λ lists. length lists.items ≡ length model.now.cols) }
-    ensures rising { OnOk result (AreRising cuts.now) }
-    ensures entries { IfOk result (λ lists. (j : ℕ) → j < length model.now.cols → slice_index_or lists.items j [] ≡ cut_entries j first cuts.now) }
-{
-    let mut lists = empty_lists(alloc, model.cols.as_slice().len())?;
-    for (k, cut) in cuts.iter().enumerate() {
-        add_terms(&mut lists, first + k as u32, cut)?;
-    }
-    Ok(lists)
-}
-
-/// Adds a copy of a column with more entries.
-fn add_longer(
-    alloc: Global,
-    columns: &mut Seq<Column>,
-    column: &Column,
-    more: &[(u32, Dec)],
-) -> Result<(), Memory>
-    ensures { OnOk result (columns.new ≡ columns.old ++ record column.now { entries = column.now.entries ++ more.now } ∷ []) }
-{
-    let entries = longer_entries(alloc, column.entries.as_slice(), more)?;
+    let entries = copied_entries(alloc, column.entries.as_slice())?;
     let name = copied_name(alloc, column.name.as_slice())?;
-    columns.push(Column {
+    copies.push(Column {
         name,
         integer: column.integer,
         lo: column.lo,
@@ -311,23 +227,54 @@ fn add_longer(
     })
 }
 
-/// Copies of the columns, each with its list behind its entries.
-fn add_longer_columns(
-    alloc: Global,
-    columns: &mut Seq<Column>,
-    old: &[Column],
-    lists: &[Entries],
-) -> Result<(), Memory>
-    requires { length lists.now ≡ length old.now }
-    ensures { (first : ℕ) (cuts : List Ineq) → ((j : ℕ) → j < length old.now → slice_index_or lists.now j [] ≡ cut_entries j first cuts)
-        → OnOk result (columns.new ≡ columns.old ++ extended_columns_from first 0 cuts old.now) }
+fn copied_columns(alloc: Global, columns: &[Column]) -> Result<Seq<Column>, Memory>
+    ensures { IfOk result (λ copies. copies ≡ columns.now) }
 {
-    for (j, column) in old.iter().enumerate() {
-        add_longer(alloc, columns, column, lists[j].as_slice())?;
+    let mut copies = Seq::new(alloc);
+    for column in columns {
+        add_column_copy(alloc, &mut copies, column)?;
+    }
+    Ok(copies)
+}
+
+/// Adds a term of the cut that has this row to its column.
+fn add_term(columns: &mut [Column], row: u32, term: &(u32, i128)) -> Result<(), Memory>
+    requires known { term.now.0 < length columns.old }
+    requires decimal { IsSome (decimal_of term.now.1) }
+    ensures { OnOk result (columns.new ≡ extended_columns_from row 0 (record { terms = term.now ∷ []; rhs = pos 0 } ∷ []) columns.old) }
+{
+    let number = decimal(term.1);
+    columns[term.0 as usize].entries.push((row, number))
+}
+
+/// Adds the terms of a cut, which has this row, to their columns.
+fn add_terms(columns: &mut [Column], row: u32, cut: &Ineq) -> Result<(), Memory>
+    requires known { IsTrue (list_all (λ t. nat_lt t.0 (length columns.old)) cut.now.terms) }
+    requires decimal { IsTrue (is_decimal cut.now) }
+    ensures columns { OnOk result (columns.new ≡ extended_columns_from row 0 (cut.now ∷ []) columns.old) }
+    ensures rising { IsRising cut.now.terms }
+{
+    for term in cut.terms.as_slice() {
+        add_term(columns, row, term)?;
     }
     Ok(())
 }
 
+/// Adds the terms of the cuts, whose rows are numbered from `first` on, to their columns.
+fn add_cuts(columns: &mut [Column], first: u32, cuts: &[Ineq]) -> Result<(), Memory>
+    requires known { IsTrue (list_all (λ c. list_all (λ t. nat_lt t.0 (length columns.old)) c.terms) cuts.now) }
+    requires decimal { IsTrue (list_all is_decimal cuts.now) }
+    requires rows { first + length cuts.now ≤ 2 ^ 20 }
+    ensures columns { OnOk result (columns.new ≡ extended_columns_from first 0 cuts.now columns.old) }
+    ensures rising { OnOk result (AreRising cuts.now) }
+{
+    for k in 0..cuts.len() {
+        add_terms(columns, first + k as u32, &cuts[k])?;
+    }
+    Ok(())
+}
+
+/// The model's columns, and the terms of the cuts behind their entries.
 fn longer_columns(
     alloc: Global,
     model: &Model,
@@ -340,10 +287,9 @@ fn longer_columns(
     ensures columns { IfOk result (λ columns. columns ≡ extended_columns_from first 0 cuts.now model.now.cols) }
     ensures rising { OnOk result (AreRising cuts.now) }
 {
-    let lists = lists_of_cuts(alloc, model, first, cuts)?;
-    let mut columns = Seq::new(alloc);
-    add_longer_columns(alloc, &mut columns, model.cols.as_slice(), &lists)?;
-    Ok(columns)
+    let mut columns = copied_columns(alloc, model.cols.as_slice())?.into_vec();
+    add_cuts(&mut columns, first, cuts)?;
+    Ok(Seq::from_vec(columns))
 }
 
 // ---- all
@@ -358,7 +304,7 @@ fn extend(alloc: Global, model: &Model, cuts: &[Ineq]) -> Result<Model, Memory>
 {
     let first = model.rows.as_slice().len() as u32;
     let name = copied_name(alloc, model.name.as_slice())?;
-    let rows = named_rows(alloc, model, cuts)?;
+    let rows = all_rows(alloc, model, cuts)?;
     let cols = longer_columns(alloc, model, first, cuts)?;
     Ok(Model {
         name,
