@@ -1,5 +1,5 @@
 -- Loops that let a text grow by the text of each item of a list.
-use Rattle.std.proofs.Common.{◌≡◌, ◌≢◌, List, ℕ, suc, ◌+◌, ◌<◌, ◌≤◌, [], ◌∷◌, ◌++◌, length, get_or, take, drop, flat_map, map, append_assoc, length-append, subst, add-one, ap, refl, sym, ◌∙◌, arith, codes, cond, pos, int_lt, not, ◌&&◌, Bool, false, Some}
+use Rattle.std.proofs.Common.{◌≡◌, ◌≢◌, List, ℕ, suc, ◌+◌, ◌<◌, ◌≤◌, [], ◌∷◌, ◌++◌, length, get_or, take, drop, flat_map, map, length-append, subst, add-one, ap, refl, sym, ◌∙◌, arith, codes, cond, pos, int_lt, not, ◌&&◌, Bool, false, Some}
 use Rattle.std.proofs.Math.Seq.{drop-cons}
 use Rattle.std.proofs.lemmas.List.{drop_all, take_all}
 use Rattle.cgl_num.specs.Decimal.{Decimal, decimal_text}
@@ -64,11 +64,12 @@ pub line_ended : {X : Type 0} (word : X → Word) (xs : List X) (i : ℕ) (whole
     → Awaits (data_line (map word (drop i xs))) whole old a → Longer (10 ∷ []) a b → Longer whole old b
 line_ended word xs i whole old a b le awaits end = awaits.with_rest b (longer_as _ _ a b (ap (λ l. data_line (map word l)) (sym (drop_all i xs le))) end)
 
-pub column_turn : (rows : List Row) (cols : List Column) (i : ℕ) (c : Column) (before : Bool) (whole : List ℕ) (old a b : Output) → i < length cols → c ≡ get_or cols i c
-    → Awaits (columns_text rows before (drop i cols)) whole old a → Longer (marker_text before c.integer ++ column_text rows c) a b
-    → Awaits (columns_text rows c.integer (drop (i + 1) cols)) whole old b
-column_turn rows cols i c before whole old a b lt is awaits grows =
-    less_to_come (marker_text before c.integer ++ column_text rows c) (columns_text rows c.integer (drop (i + 1) cols)) _ whole old a b (ap (columns_text rows before) (next_item cols i c c lt is)) awaits grows
+pub column_turn : (rows : List Row) (cols : List Column) (i : ℕ) (c : Column) (before : Bool) (whole : List ℕ) (old a b d : Output) → i < length cols → c ≡ get_or cols i c
+    → Awaits (columns_text rows before (drop i cols)) whole old a → Longer (marker_text before c.integer) a b → Longer (column_text rows c) b d
+    → Awaits (columns_text rows c.integer (drop (i + 1) cols)) whole old d
+column_turn rows cols i c before whole old a b d lt is awaits marker column =
+    less_to_come (marker_text before c.integer ++ column_text rows c) (columns_text rows c.integer (drop (i + 1) cols)) _ whole old a d (ap (columns_text rows before) (next_item cols i c c lt is)) awaits
+    (longer_then (marker_text before c.integer) (column_text rows c) a b d marker column)
 
 pub columns_ended : (rows : List Row) (cols : List Column) (i : ℕ) (before : Bool) (whole : List ℕ) (old a b : Output) → length cols ≤ i
     → Awaits (columns_text rows before (drop i cols)) whole old a → Longer (marker_text before false) a b → Longer whole old b
@@ -106,17 +107,22 @@ lower_and_upper name l u alone a b c is other first second =
 
 -- ---- all
 
-joined : (n s r k c v x y z e : List ℕ) → ((n ++ s) ++ (r ++ k ++ c ++ v)) ++ (x ++ y ++ z) ++ e ≡ n ++ s ++ r ++ k ++ c ++ v ++ x ++ y ++ z ++ e
-joined n s r k c v x y z e = simp append_assoc
-
 -- the parts that are written one behind another are the whole text
-pub deck_longer : (m : Model) (a b c d e : Output) → Longer (name_text m.name ++ sense_text m.maximise) a b
-    → Longer (codes "ROWS\n" ++ flat_map row_text m.rows ++ codes "COLUMNS\n" ++ columns_text m.rows false m.cols) b c
-    → Longer (section_text (codes "RHS\n") (flat_map rhs_text m.rows) ++ section_text (codes "RANGES\n") (flat_map range_text m.rows) ++ section_text (codes "BOUNDS\n") (flat_map bound_text m.cols)) c d
-    → Longer (codes "ENDATA\n") d e → Longer (deck_text m) a e
+pub deck_longer : (m : Model) (o0 o1 o2 o3 o4 o5 o6 o7 o8 o9 end : Output) → Longer (name_text m.name) o0 o1 → Longer (sense_text m.maximise) o1 o2
+    → Longer (codes "ROWS\n") o2 o3 → Longer (flat_map row_text m.rows) o3 o4
+    → Longer (codes "COLUMNS\n") o4 o5 → Longer (columns_text m.rows false m.cols) o5 o6
+    → Longer (section_text (codes "RHS\n") (flat_map rhs_text m.rows)) o6 o7
+    → Longer (section_text (codes "RANGES\n") (flat_map range_text m.rows)) o7 o8
+    → Longer (section_text (codes "BOUNDS\n") (flat_map bound_text m.cols)) o8 o9
+    → Longer (codes "ENDATA\n") o9 end → Longer (deck_text m) o0 end
 unfolding deck_text
-deck_longer m a b c d e head matrix sections end =
-    longer_as _ _ a e
-    (joined (name_text m.name) (sense_text m.maximise) (codes "ROWS\n") (flat_map row_text m.rows) (codes "COLUMNS\n") (columns_text m.rows false m.cols)
-    (section_text (codes "RHS\n") (flat_map rhs_text m.rows)) (section_text (codes "RANGES\n") (flat_map range_text m.rows)) (section_text (codes "BOUNDS\n") (flat_map bound_text m.cols)) (codes "ENDATA\n"))
-    (longer_then _ _ a d e (longer_then _ _ a c d (longer_then _ _ a b c head matrix) sections) end)
+deck_longer m o0 o1 o2 o3 o4 o5 o6 o7 o8 o9 end name sense row_header rows column_header columns rhs ranges bounds last =
+    longer_then _ _ o0 o9 end
+    (longer_then _ _ o0 o8 o9
+    (longer_then _ _ o0 o7 o8
+    (longer_then _ _ o0 o6 o7
+    (longer_then _ _ o0 o5 o6
+    (longer_then _ _ o0 o4 o5
+    (longer_then _ _ o0 o3 o4
+    (longer_then _ _ o0 o2 o3
+    (longer_then _ _ o0 o1 o2 name sense) row_header) rows) column_header) columns) rhs) ranges) bounds) last

@@ -142,22 +142,29 @@ fn copied_entries(alloc: Global, entries: &[(u32, Dec)]) -> Result<Entries, Memo
 
 // ---- rows
 
-fn decimal(n: i128) -> Dec
-    requires { IsSome (decimal_of n) }
-    ensures { result ≡ decimal_or_zero n }
+fn right_side(cut: &Ineq) -> Dec
+    requires { IsTrue (is_decimal cut.now) }
+    ensures { result ≡ decimal_or_zero cut.now.rhs }
 {
-    Dec::whole(n).unwrap()
+    Dec::whole(cut.rhs).unwrap()
 }
 
-fn add_row_copy(alloc: Global, copies: &mut Seq<Row>, row: &Row) -> Result<(), Memory>
-    ensures { OnOk result (copies.new ≡ copies.old ++ row.now ∷ []) }
+fn add_row(
+    alloc: Global,
+    rows: &mut Seq<Row>,
+    name: &[u8],
+    kind: RowKind,
+    rhs: Dec,
+    range: Option<Dec>,
+) -> Result<(), Memory>
+    ensures { OnOk result (rows.new ≡ rows.old ++ record { name = name.now; kind = kind; rhs = rhs; range = range } ∷ []) }
 {
-    let name = copied_name(alloc, row.name.as_slice())?;
-    copies.push(Row {
+    let name = copied_name(alloc, name)?;
+    rows.push(Row {
         name,
-        kind: row.kind,
-        rhs: row.rhs,
-        range: row.range,
+        kind,
+        rhs,
+        range,
     })
 }
 
@@ -165,22 +172,10 @@ fn add_row_copies(alloc: Global, copies: &mut Seq<Row>, rows: &[Row]) -> Result<
     ensures { OnOk result (copies.new ≡ copies.old ++ rows.now) }
 {
     for row in rows {
-        add_row_copy(alloc, copies, row)?;
+        let name = row.name.as_slice();
+        add_row(alloc, copies, name, row.kind, row.rhs, row.range)?;
     }
     Ok(())
-}
-
-fn add_cut_row(alloc: Global, rows: &mut Seq<Row>, name: &[u8], cut: &Ineq) -> Result<(), Memory>
-    requires { IsTrue (is_decimal cut.now) }
-    ensures { OnOk result (rows.new ≡ rows.old ++ cut_row (name.now, cut.now) ∷ []) }
-{
-    let name = copied_name(alloc, name)?;
-    rows.push(Row {
-        name,
-        kind: RowKind::G,
-        rhs: decimal(cut.rhs),
-        range: None,
-    })
 }
 
 fn add_cut_rows(
@@ -193,7 +188,9 @@ fn add_cut_rows(
     ensures { OnOk result (rows.new ≡ rows.old ++ map cut_row (zip names.now cuts.now)) }
 {
     for k in 0..names.len().min(cuts.len()) {
-        add_cut_row(alloc, rows, names[k].as_slice(), &cuts[k])?;
+        let name = names[k].as_slice();
+        let rhs = right_side(&cuts[k]);
+        add_row(alloc, rows, name, RowKind::G, rhs, None)?;
     }
     Ok(())
 }
@@ -243,7 +240,7 @@ fn add_term(columns: &mut [Column], row: u32, term: &(u32, i128)) -> Result<(), 
     requires decimal { IsSome (decimal_of term.now.1) }
     ensures { OnOk result (columns.new ≡ extended_columns_from row 0 (record { terms = term.now ∷ []; rhs = pos 0 } ∷ []) columns.old) }
 {
-    let number = decimal(term.1);
+    let number = Dec::whole(term.1).unwrap();
     columns[term.0 as usize].entries.push((row, number))
 }
 

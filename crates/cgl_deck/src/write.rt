@@ -134,20 +134,13 @@ fn add_marker(output: &mut Output, before: bool, integer: bool)
     }
 }
 
-/// A column behind the marker that it needs.
-fn add_marked(output: &mut Output, rows: &[Row], before: bool, column: &Column)
-    ensures { Longer (marker_text before column.now.integer ++ column_text rows.now column.now) output.old output.new }
-{
-    add_marker(output, before, column.integer);
-    add_column(output, rows, column);
-}
-
 fn add_columns(output: &mut Output, rows: &[Row], columns: &[Column])
     ensures { Longer (columns_text rows.now false columns.now) output.old output.new }
 {
     let mut before = false;
     for column in columns {
-        add_marked(output, rows, before, column);
+        add_marker(output, before, column.integer);
+        add_column(output, rows, column);
         before = column.integer;
     }
     add_marker(output, before, false);
@@ -292,39 +285,20 @@ fn add_bound_section(output: &mut Output, columns: &[Column])
 
 // ---- all
 
-fn add_head(output: &mut Output, model: &Model)
-    ensures { Longer (name_text model.now.name ++ sense_text model.now.maximise) output.old output.new }
-{
-    add_name(output, model.name.as_slice());
-    add_sense(output, model.maximise);
-}
-
-fn add_matrix(output: &mut Output, rows: &[Row], columns: &[Column])
-    ensures { Longer (codes "ROWS\n" ++ flat_map row_text rows.now ++ codes "COLUMNS\n" ++ columns_text rows.now false columns.now) output.old output.new }
-{
-    output.append(b"ROWS\n");
-    add_rows(output, rows);
-    output.append(b"COLUMNS\n");
-    add_columns(output, rows, columns);
-}
-
-fn add_sections(output: &mut Output, rows: &[Row], columns: &[Column])
-    ensures { Longer (section_text (codes "RHS\n") (flat_map rhs_text rows.now)
-        ++ section_text (codes "RANGES\n") (flat_map range_text rows.now) ++ section_text (codes "BOUNDS\n") (flat_map bound_text columns.now)) output.old output.new }
-{
-    add_right_side_section(output, rows);
-    add_range_section(output, rows);
-    add_bound_section(output, columns);
-}
-
 fn add_deck(output: &mut Output, model: &Model)
     ensures { Longer (deck_text model.now) output.old output.new }
 {
     let rows = model.rows.as_slice();
     let columns = model.cols.as_slice();
-    add_head(output, model);
-    add_matrix(output, rows, columns);
-    add_sections(output, rows, columns);
+    add_name(output, model.name.as_slice());
+    add_sense(output, model.maximise);
+    output.append(b"ROWS\n");
+    add_rows(output, rows);
+    output.append(b"COLUMNS\n");
+    add_columns(output, rows, columns);
+    add_right_side_section(output, rows);
+    add_range_section(output, rows);
+    add_bound_section(output, columns);
     output.append(b"ENDATA\n");
 }
 

@@ -9,8 +9,9 @@ returns c = nothing_left _ _ _ (ap (map cut_row) (zip_ended c.args.names.now c.a
 
 pub loop-k-preserved : goal.loop-k-preserved
 loop-k-preserved c =
-    zip_turn cut_row c.loop-k.rows c.add_cut_row.new.rows _ c.args.names.now c.args.cuts.now c.loop-k.k c.index-names-k.result c.as_slice.result.now c.index-cuts-k.result
-    (omega arith) (omega arith) c.index-names-k.is c.index-cuts-k.is c.as_slice.ensures c.in_ok-add_cut_row.ensures c.loop-k.invariant
+    let added = rw c.right_side-rhs.ensures at c.in_ok-add_row.ensures in
+    zip_turn cut_row c.loop-k.rows c.add_row.new.rows _ c.args.names.now c.args.cuts.now c.loop-k.k c.index-names-k.result c.as_slice-name.result.now c.index-cuts-k.result
+    (omega arith) (omega arith) c.index-names-k.is c.index-cuts-k.is c.as_slice-name.ensures added c.loop-k.invariant
 
-pub add_cut_row-requires : goal.add_cut_row-requires
-add_cut_row-requires c = cut_passes is_decimal c.args.cuts.now c.loop-k.k c.index-cuts-k.result (omega arith) c.index-cuts-k.is c.requires
+pub right_side-rhs-requires : goal.right_side-rhs-requires
+right_side-rhs-requires c = cut_passes is_decimal c.args.cuts.now c.loop-k.k c.index-cuts-k.result (omega arith) c.index-cuts-k.is c.requires
