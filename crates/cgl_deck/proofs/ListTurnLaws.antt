@@ -18,7 +18,7 @@ room_short f xs i x left part room lt is measured short before =
     let here : f x ≡ f (get_or xs i x) = ap f is in
     omega arith
 
-pub room_enough : {X : Type 0} (f : X → ℕ) (xs : List X) (i left room : ℕ) → length xs ≤ i → left + sum_by f xs ≡ room + sum_by f (drop i xs) → sum_by f xs ≤ room
-room_enough f xs i left room le before =
+pub room_left : {X : Type 0} (f : X → ℕ) (xs : List X) (i left room : ℕ) → length xs ≤ i → left + sum_by f xs ≡ room + sum_by f (drop i xs) → left + sum_by f xs ≡ room
+room_left f xs i left room le before =
     let none : sum_by f (drop i xs) ≡ 0 = ap (sum_by f) (drop_all i xs le) in
     omega arith

@@ -87,11 +87,18 @@ fn first_not_decimal(cuts: &[Ineq]) -> Option<usize>
     None
 }
 
-/// Whether the cuts have at most this many terms.
-fn terms_fit(cuts: &[Ineq], room: usize) -> bool
-    ensures { result ≡ nat_le (term_count cuts.now) room }
+/// Whether the columns have at most as many entries as there may be once each term of the cuts is one.
+fn entries_fit(columns: &[Column], cuts: &[Ineq]) -> bool
+    ensures { result ≡ nat_le (sum_by (λ c. length c.entries) columns.now + term_count cuts.now) (2 ^ 22) }
 {
-    let mut left = room;
+    let mut left = MOST_ENTRIES;
+    for column in columns {
+        let entries = column.entries.as_slice().len();
+        if left < entries {
+            return false;
+        }
+        left -= entries;
+    }
     for cut in cuts {
         let terms = cut.terms.as_slice().len();
         if left < terms {
@@ -102,30 +109,12 @@ fn terms_fit(cuts: &[Ineq], room: usize) -> bool
     true
 }
 
-/// What the entries of these columns leave of so much room; none where there are more.
-fn room_behind(columns: &[Column], room: usize) -> Option<usize>
-    ensures { let entries = sum_by (λ c. length c.entries) columns.now in
-        MatchOption result (room < entries) (λ left. left + entries ≡ room) }
-{
-    let mut left = room;
-    for column in columns {
-        let entries = column.entries.as_slice().len();
-        if left < entries {
-            return None;
-        }
-        left -= entries;
-    }
-    Some(left)
-}
-
 fn fits(model: &Model, cuts: &[Ineq]) -> bool
     requires { length cuts.now < 2 ^ 32 }
     ensures { result ≡ is_within_sizes model.now cuts.now }
 {
-    let Some(left) = room_behind(model.cols.as_slice(), MOST_ENTRIES) else {
-        return false;
-    };
-    model.rows.as_slice().len() + cuts.len() <= MOST_ROWS && terms_fit(cuts, left)
+    model.rows.as_slice().len() + cuts.len() <= MOST_ROWS
+        && entries_fit(model.cols.as_slice(), cuts)
 }
 
 // ---- copies

@@ -1,6 +1,5 @@
-use Rattle.std.proofs.Common.{◌≡◌, ℕ, Err, IsErrOf, true, Some, is_some, ap, ◌∙◌, sym, rules}
+use Rattle.std.proofs.Common.{ℕ, Err, IsErrOf, Some, is_some, ap, ◌∙◌, sym, not}
 use Rattle.cgl_deck.specs.declared.extend.ExtendError.{ExtendError}
-use Rattle.cgl_deck.specs.Extended.{is_within_sizes}
 use Rattle.cgl_deck.proofs.ExtensionLaws.{extension_stands}
 use Rattle.cgl_deck.proofs.extend.with_cuts.Goals as goal
 
@@ -17,7 +16,7 @@ pub returns-then-not-fits-clause-too_many : goal.returns-then-not-fits-clause-to
 returns-then-not-fits-clause-too_many c h = record {
   known = c.in_default.ensures;
   decimal = c.in_default-first_not_decimal.ensures;
-  large = search rules;
+  large = ap not (sym c.fits.ensures ∙ c.if-not-fits.true);
 }
 
 pub extend-requires-clause-known : goal.extend-requires-clause-known
@@ -30,12 +29,12 @@ pub returns-in_default-extend-clause-memory : goal.returns-in_default-extend-cla
 returns-in_default-extend-clause-memory c h =
     let known = c.in_default.ensures in
     let decimal = c.in_default-first_not_decimal.ensures in
-    let fits : is_within_sizes c.args.model.now c.args.cuts.now ≡ true = search rules in
+    let fits = sym c.fits.ensures ∙ c.if-not-fits.false in
     ap is_some (extension_stands c.args.model.now c.args.cuts.now known decimal fits)
 
 pub returns-clause-ok : goal.returns-clause-ok
 returns-clause-ok c =
     let known = c.in_default.ensures in
     let decimal = c.in_default-first_not_decimal.ensures in
-    let fits : is_within_sizes c.args.model.now c.args.cuts.now ≡ true = search rules in
+    let fits = sym c.fits.ensures ∙ c.if-not-fits.false in
     extension_stands c.args.model.now c.args.cuts.now known decimal fits ∙ ap Some (sym c.in-Ok.ensures.model)
