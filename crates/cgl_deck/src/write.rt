@@ -2,7 +2,7 @@ ghost use Rattle.std.specs.Prelude.{◌≡◌, [], ◌∷◌, ◌++◌, ◌&&◌
 ghost use Rattle.cgl_num.specs.Decimal.{decimal_text};
 ghost use Rattle.cgl_deck.specs.DeckLength.{most};
 ghost use Rattle.cgl_deck.specs.DeckOutput.{Longer};
-ghost use Rattle.cgl_deck.specs.DeckText.{both_text, bound_line, bound_text, column_text, columns_text, data_line, deck_text, is_same_decimal, is_zero_decimal, kind_word, lower_text, marker_text, name_text, range_text, rhs_text, row_name, row_text, section_text, sense_text};
+ghost use Rattle.cgl_deck.specs.DeckText.{both_text, bound_line, bound_text, column_text, columns_text, data_line, deck_text, is_zero_decimal, kind_word, lower_text, marker_text, name_text, range_text, rhs_text, row_name, row_text, section_text, sense_text};
 
 use crate::output::Output;
 use cgl_model::{Column, Model, Row, RowKind};
@@ -23,12 +23,6 @@ fn is_upper_alone(lo: Dec, up: Dec) -> bool
     ensures { result ≡ (is_zero_decimal lo && not (int_lt up.m (pos 0))) }
 {
     lo.m() == 0 && up.m() >= 0
-}
-
-fn is_same(a: Dec, b: Dec) -> bool
-    ensures { result ≡ is_same_decimal a b }
-{
-    a == b
 }
 
 // ---- lines
@@ -254,7 +248,7 @@ fn add_bound(output: &mut Output, column: &Column)
         }
         (Some(lo), None) => add_lower(output, name, column.integer, lo),
         (Some(lo), Some(up)) => {
-            if is_same(lo, up) {
+            if lo == up {
                 add_value(output, b"FX", name, lo);
             } else {
                 add_both(output, name, lo, up);
