@@ -1,6 +1,5 @@
 //! Cases of the program, over files and outputs in memory.
-use crate::bytes::{put, put_line};
-use crate::numbers::put_labelled;
+use crate::bytes::bytes_of;
 use cgl_app::run;
 use cgl_outside::{Call, Fail, MemShelf, MemSink, SureShelf, SureSink};
 use std::alloc::Global;
@@ -8,145 +7,145 @@ use std::alloc::Global;
 /// The names whose files are told.
 const NAMES: [&str; 4] = ["m.mps", "x.txt", "o.mps", "p.txt"];
 
-/// Adds a word. `''` is an empty one.
-fn add_word(alloc: Global, words: &mut Vec<String>, word: &str) {
-    let word = if word == "''" { "" } else { word };
-    if let Ok(word) = String::from_str(alloc, word) {
-        let _done = words.push(word);
-    }
+/// Faults of a shelf and of outputs: the calls that fail, by their number among those of their kind, and how many bytes
+/// they take all the same.
+#[derive(Drop)]
+struct Faults {
+    shelf: Vec<Fail>,
+    out: Vec<(u64, u64)>,
+    err: Vec<(u64, u64)>,
 }
 
-fn words_of(alloc: Global, command: &str) -> Vec<String> {
-    let mut words = Vec::new(alloc);
-    for word in command.split_whitespace() {
-        add_word(alloc, &mut words, word);
-    }
-    words
+/// Gives a name the bytes behind it.
+pub fn put_file(alloc: Global, files: &mut SureShelf, line: &str) -> Option<()> {
+    let (name, text) = line.split_once(' ').unwrap_or((line, ""));
+    let bytes = bytes_of(alloc, text)?;
+    files.put_file(name, &bytes).ok()
 }
 
-fn number(word: &str) -> u64 {
-    word.parse::<u64>().unwrap_or(0)
-}
-
-/// A fault `KIND NTH KEEP`: the kind of call, its number among those, and how many bytes it takes all the same.
-fn fault_of(fault: &str) -> (&str, u64, u64) {
-    let (kind, numbers) = fault.split_once(' ').unwrap_or((fault, ""));
-    let (nth, keep) = numbers.split_once(' ').unwrap_or((numbers, ""));
-    (kind, number(nth), number(keep))
-}
-
-fn add_fail(fails: &mut Vec<Fail>, fault: &str) {
-    let (kind, nth, keep) = fault_of(fault);
+/// Adds a fault `KIND NTH KEEP`.
+fn add_fault(faults: &mut Faults, fault: &str) -> Option<()> {
+    let (kind, numbers) = fault.split_once(' ')?;
+    let (nth, keep) = numbers.split_once(' ')?;
+    let nth = nth.parse::<u64>().ok()?;
+    let keep = keep.parse::<u64>().ok()?;
     let call = match kind {
         "read" => Call::Read,
         "create" => Call::Create,
         "append" => Call::Append,
-        _ => return,
+        "out" => return faults.out.push((nth, keep)).ok(),
+        "err" => return faults.err.push((nth, keep)).ok(),
+        _ => return None,
     };
-    let _done = fails.push(Fail { call, nth, keep });
+    faults.shelf.push(Fail { call, nth, keep }).ok()
 }
 
-fn add_fails(fails: &mut Vec<Fail>, faults: &str) {
-    for fault in faults.split(", ") {
-        add_fail(fails, fault);
+fn add_faults(faults: &mut Faults, list: &str) -> Option<()> {
+    for fault in list.split_terminator(", ") {
+        add_fault(faults, fault)?;
     }
+    Some(())
 }
 
-/// A shelf with the files, whose calls have the faults of their kinds.
-fn shelf_with(alloc: Global, files: &SureShelf, faults: &str) -> MemShelf {
-    let mut fails = Vec::new(alloc);
-    add_fails(&mut fails, faults);
-    let mut shelf = MemShelf::new(alloc, fails);
-    put_files(&mut shelf, files);
-    shelf
+/// Adds a word. `''` is an empty one.
+fn add_word(alloc: Global, words: &mut Vec<String>, word: &str) -> Option<()> {
+    let word = if word == "''" { "" } else { word };
+    words.push(String::from_str(alloc, word).ok()?).ok()
 }
 
-fn put_files(shelf: &mut MemShelf, files: &SureShelf) {
-    for name in &NAMES {
-        if let Some(bytes) = files.file(name) {
-            let _done = shelf.put_file(name, bytes);
-        }
+fn words_of(alloc: Global, command: &str) -> Option<Vec<String>> {
+    let mut words = Vec::new(alloc);
+    for word in command.split_whitespace() {
+        add_word(alloc, &mut words, word)?;
     }
+    Some(words)
 }
 
-fn add_pair(pairs: &mut Vec<(u64, u64)>, output: &str, fault: &str) {
-    let (kind, nth, keep) = fault_of(fault);
-    if kind == output {
-        let _done = pairs.push((nth, keep));
-    }
-}
-
-fn add_pairs(pairs: &mut Vec<(u64, u64)>, output: &str, faults: &str) {
-    for fault in faults.split(", ") {
-        add_pair(pairs, output, fault);
-    }
-}
-
-/// An output whose puts have the faults of its kind.
-fn sink_with(alloc: Global, output: &str, faults: &str) -> MemSink {
-    let mut pairs = Vec::new(alloc);
-    add_pairs(&mut pairs, output, faults);
-    MemSink::new(alloc, pairs)
-}
-
-fn put_end(out: &mut SureSink, status: u8, written: &[u8], told: &[u8]) {
-    put_labelled(out, "\n  status ", status as i128);
-    put(out, "\n  out ");
-    put_line(out, written);
-    put(out, "\n  err ");
-    put_line(out, told);
+/// Tells the end of a run, and how often memory was refused to its files and outputs.
+fn tell_end(rt: &impl Print, status: u8, out: &[u8], err: &[u8], refused: [u64; 3]) -> Option<()> {
+    let out = out.escape_ascii();
+    let err = err.escape_ascii();
+    println!(rt; "  status {status} refused {refused:?}\n  out {out}\n  err {err}").ok()
 }
 
 /// Tells what a name holds, if it is not what it held before.
-fn put_change(out: &mut SureSink, name: &str, before: Option<&[u8]>, after: Option<&[u8]>) {
+fn tell_change(
+    rt: &impl Print,
+    name: &str,
+    before: Option<&[u8]>,
+    after: Option<&[u8]>,
+) -> Option<()> {
     if before == after {
-        return;
+        return Some(());
     }
-    put(out, "\n  ");
-    put(out, name);
-    match after {
-        Some(bytes) => {
-            put(out, " ");
-            put_line(out, bytes);
-        }
-        None => put(out, " is gone"),
-    }
+    let bytes = after.unwrap_or(b" is gone");
+    println!(rt; "  {name} {}", bytes.escape_ascii()).ok()
 }
 
-fn put_changes(out: &mut SureSink, before: &SureShelf, after: &MemShelf) {
+fn put_files(shelf: &mut MemShelf, files: &SureShelf) -> Option<()> {
     for name in &NAMES {
-        put_change(out, name, before.file(name), after.file(name));
+        if let Some(bytes) = files.file(name) {
+            shelf.put_file(name, bytes).ok()?;
+        }
     }
+    Some(())
+}
+
+/// Tells a run over a shelf with the files and over outputs, and which files it changed.
+fn tell_run_over(
+    rt: &impl Print,
+    alloc: Global,
+    files: &SureShelf,
+    words: &[String],
+    shelf: &mut MemShelf,
+    out: &mut MemSink,
+    err: &mut MemSink,
+) -> Option<()> {
+    put_files(shelf, files)?;
+    let status = run(alloc, words, shelf, out, err);
+    let refused = [shelf.refused(), out.refused(), err.refused()];
+    tell_end(rt, status, out.bytes(), err.bytes(), refused)?;
+    for name in &NAMES {
+        tell_change(rt, name, files.file(name), shelf.file(name))?;
+    }
+    Some(())
 }
 
 /// Tells a run over a shelf and outputs whose calls have the faults that stand before a colon, behind which the words are.
-pub fn tell_run(alloc: Global, out: &mut SureSink, files: &SureShelf, line: &str) {
-    let (faults, command) = line.split_once(':').unwrap_or(("", line));
-    let words = words_of(alloc, command);
-    let mut shelf = shelf_with(alloc, files, faults);
-    let mut to_out = sink_with(alloc, "out", faults);
-    let mut to_err = sink_with(alloc, "err", faults);
-    let status = run(alloc, &words, &mut shelf, &mut to_out, &mut to_err);
-    put_end(out, status, to_out.bytes(), to_err.bytes());
-    put_changes(out, files, &shelf);
+pub fn tell_run(rt: &impl Print, alloc: Global, files: &SureShelf, line: &str) -> Option<()> {
+    let (list, command) = line.split_once(':')?;
+    let words = words_of(alloc, command)?;
+    let mut faults = Faults {
+        shelf: Vec::new(alloc),
+        out: Vec::new(alloc),
+        err: Vec::new(alloc),
+    };
+    add_faults(&mut faults, list)?;
+    let mut shelf = MemShelf::new(alloc, faults.shelf);
+    let mut out = MemSink::new(alloc, faults.out);
+    let mut err = MemSink::new(alloc, faults.err);
+    tell_run_over(rt, alloc, files, &words, &mut shelf, &mut out, &mut err)
 }
 
-/// Tells all files that there are, and how often memory was refused.
-fn put_sure_end(out: &mut SureSink, files: &SureShelf, to_out: &SureSink, to_err: &SureSink) {
+fn tell_files(rt: &impl Print, files: &SureShelf) -> Option<()> {
     for name in &NAMES {
-        put_change(out, name, None, files.file(name));
+        tell_change(rt, name, None, files.file(name))?;
     }
-    put_labelled(out, "\n  refused ", files.refused() as i128);
-    put_labelled(out, " ", to_out.refused() as i128);
-    put_labelled(out, " ", to_err.refused() as i128);
+    Some(())
 }
 
-/// Tells a run over the files themselves and outputs that fail for want of memory alone.
-pub fn tell_sure_run(alloc: Global, out: &mut SureSink, files: &mut SureShelf, command: &str) {
-    let words = words_of(alloc, command);
-    let mut to_out = SureSink::new(alloc);
-    let mut to_err = SureSink::new(alloc);
-    let status = run(alloc, &words, files, &mut to_out, &mut to_err);
-    put_end(out, status, to_out.bytes(), to_err.bytes());
-    put_sure_end(out, files, &to_out, &to_err);
+/// Tells a run over the files themselves and outputs that fail for want of memory alone, and all files.
+pub fn tell_sure_run(
+    rt: &impl Print,
+    alloc: Global,
+    files: &mut SureShelf,
+    command: &str,
+) -> Option<()> {
+    let words = words_of(alloc, command)?;
+    let mut out = SureSink::new(alloc);
+    let mut err = SureSink::new(alloc);
+    let status = run(alloc, &words, files, &mut out, &mut err);
+    let refused = [files.refused(), out.refused(), err.refused()];
+    tell_end(rt, status, out.bytes(), err.bytes(), refused)?;
+    tell_files(rt, files)
 }
