@@ -87,7 +87,7 @@ fn first_not_decimal(cuts: &[Ineq]) -> Option<usize>
     None
 }
 
-/// Whether the columns have at most as many entries as there may be once each term of the cuts is one.
+/// Whether the entries of the columns and the terms of the cuts are at most 2^22 together.
 fn entries_fit(columns: &[Column], cuts: &[Ineq]) -> bool
     ensures { result ≡ nat_le (sum_by (λ c. length c.entries) columns.now + term_count cuts.now) (2 ^ 22) }
 {
