@@ -1,4 +1,5 @@
-//! Bytes in the lines of cases: `\n`, `\r` and `\t` as usual, and `\{BYTE*TIMES}` for so many times the byte of this number.
+//! Bytes in the lines of cases: `\n`, `\r` and `\t` as usual, and `\{BYTE*TIMES}` for so many times the byte of this
+//! number.
 ghost use Rattle.std.specs.Prelude.{◌≤◌, length, ◌^◌, IfSome};
 
 use std::alloc::Global;

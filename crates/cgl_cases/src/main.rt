@@ -1,5 +1,5 @@
-//! Writes each line of standard input and behind it what the public calls answer: a line is a word, which names the calls,
-//! and what they take. A line that names none is told as a fault, and so is one for which memory was refused.
+//! Writes each line of standard input and behind it what the public calls answer: a line is a word, which names the
+//! calls, and what they take. A line that names none is told as a fault, and so is one for which memory was refused.
 #![tactic(auto)]
 
 mod bytes;

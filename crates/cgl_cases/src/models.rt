@@ -1,5 +1,4 @@
 //! Cases of decks, and of a point.
-ghost use Rattle.std.specs.Prelude.{◌≤◌, ◌^◌, length};
 ghost use Rattle.cgl_model.specs.Valid.{IsValid};
 
 use crate::bytes::bytes_of;
@@ -37,9 +36,9 @@ fn tell_text(rt: &impl Print, alloc: Global, files: &mut SureShelf, model: &Mode
 {
     write_deck(alloc, model, files, "text").ok()?;
     let text = deck_text(alloc, model).ok()?;
-    let is_long = text.len() as u64 == deck_len(model);
+    let has_length = text.len() as u64 == deck_len(model);
     let is_written = files.file("text") == Some(text.as_slice());
-    println!(rt; "  {is_long} {is_written} {}", text.escape_ascii()).ok()
+    println!(rt; "  {has_length} {is_written} {}", text.escape_ascii()).ok()
 }
 
 /// Tells the names of three cuts.

@@ -1,5 +1,4 @@
 //! Cases of fractions and decimals.
-ghost use Rattle.std.specs.Prelude.{◌<◌, ◌^◌, unsigned_abs};
 
 use cgl_num::{Dec, Frac, gcd, is_number_text};
 
@@ -23,8 +22,8 @@ pub fn tell_fraction(rt: &impl Print, word: &str) -> Option<()> {
     println!(rt; "  {text} = {} + {:?}", f.floor(), f.fract()).ok()
 }
 
-/// Tells the sum of two fractions, their difference, product and quotient, their order by `compare` and by `cmp`, and the
-/// gcd of their numerators.
+/// Tells the sum of two fractions, their difference, product and quotient, their order by `compare` and by `cmp`, and
+/// the gcd of their numerators.
 pub fn tell_sums(rt: &impl Print, words: &str) -> Option<()> {
     let (a, b) = words.split_once(' ')?;
     let a = fraction(a)?;
@@ -44,8 +43,8 @@ fn tell_decimal(rt: &impl Print, number: Dec) -> Option<()> {
     println!(rt; "  {text} = {} e{}", number.m(), number.e()).ok()
 }
 
-/// Tells whether a text is of the form of a number, what it is as a bound, what it is as an integer, where it has digits
-/// alone behind its sign, and what it is as a number.
+/// Tells whether a text is of the form of a number, what it is as a bound, what it is as an integer, where it has
+/// digits alone behind its sign, and what it is as a number.
 pub fn tell_number(rt: &impl Print, text: &str) -> Option<()> {
     let bytes = text.as_bytes();
     println!(rt; "  {} {:?}", is_number_text(bytes), Dec::read_bound(bytes)).ok()?;

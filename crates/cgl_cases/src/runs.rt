@@ -111,7 +111,7 @@ fn tell_run_over(
     Some(())
 }
 
-/// Tells a run over a shelf and outputs whose calls have the faults that stand before a colon, behind which the words are.
+/// Tells a run over a shelf and outputs whose calls have the faults that stand before a colon. Behind it the words are.
 pub fn tell_run(rt: &impl Print, alloc: Global, files: &SureShelf, line: &str) -> Option<()> {
     let (list, command) = line.split_once(':')?;
     let words = words_of(alloc, command)?;

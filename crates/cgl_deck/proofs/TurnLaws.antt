@@ -1,17 +1,16 @@
 -- Loops that let a text grow by the text of each item of a list.
-use Rattle.std.proofs.Common.{◌≡◌, ◌≢◌, List, ℕ, suc, ◌+◌, ◌<◌, ◌≤◌, [], ◌∷◌, ◌++◌, length, get_or, take, drop, flat_map, map, length-append, subst, add-one, ap, refl, sym, ◌∙◌, arith, codes, cond, pos, int_lt, not, ◌&&◌, Bool, false, Some}
+use Rattle.std.proofs.Common.{◌≡◌, ◌≢◌, List, ℕ, suc, ◌+◌, ◌<◌, ◌≤◌, [], ◌∷◌, ◌++◌, length, get_or, take, drop, flat_map, map, length-append, subst, add-one, ap, refl, sym, ◌∙◌, arith, codes, cond, pos, int_lt, not, ◌&&◌, Bool, false}
 use Rattle.std.proofs.Math.Seq.{drop-cons}
 use Rattle.std.proofs.lemmas.List.{drop_all, take_all}
 use Rattle.cgl_num.specs.Decimal.{Decimal, decimal_text}
 use Rattle.cgl_num.specs.NumberText.{Word}
-use Rattle.cgl_num.specs.Growth.{Grown}
 use Rattle.cgl_num.proofs.GrowthLaws.{flat_map_more, grows_nothing, grows_then}
 use Rattle.cgl_model.specs.declared.mip.Column.{Column}
 use Rattle.cgl_model.specs.declared.mip.Model.{Model}
 use Rattle.cgl_model.specs.declared.mip.Row.{Row}
 use Rattle.cgl_deck.specs.declared.output.Output.{Output}
 use Rattle.cgl_deck.specs.DeckLength.{most}
-use Rattle.cgl_deck.specs.DeckOutput.{Longer, grown}
+use Rattle.cgl_deck.specs.DeckOutput.{Longer}
 use Rattle.cgl_deck.specs.DeckText.{both_text, bound_line, bound_text, column_text, columns_text, data_line, deck_text, is_zero_decimal, marker_text, name_text, range_text, rhs_text, row_text, section_text, sense_text}
 
 pub next_item : {X : Type 0} (xs : List X) (i : ℕ) (d x : X) → i < length xs → x ≡ get_or xs i d → drop i xs ≡ x ∷ drop (i + 1) xs
@@ -20,25 +19,17 @@ next_item xs i d x lt is = rw add-one (drop-cons xs i d lt ∙ ap (λ v. v ∷ d
 -- ---- pieces
 
 pub longer_nothing : (a : Output) → Longer [] a a
-longer_nothing a = record { len = λ n is. is ∙ ap most (omega arith); bytes = grows_nothing _ }
+longer_nothing a = record { kept = refl; len = λ n is. is ∙ ap most (omega arith); bytes = grows_nothing _ }
 
 pub longer_then : (x y : List ℕ) (a b c : Output) → Longer x a b → Longer y b c → Longer (x ++ y) a c
 longer_then x y a b c first second = record {
+  kept = second.kept ∙ first.kept;
   len = λ n is. second.len (n + length x) (first.len n is) ∙ ap most (omega (arith, length-append x y));
   bytes = grows_then x y _ _ _ first.bytes second.bytes;
 }
 
 pub longer_as : (x y : List ℕ) (a b : Output) → x ≡ y → Longer x a b → Longer y a b
 longer_as x y a b e longer = subst (λ (z : List ℕ). Longer z a b) e longer
-
--- the bytes that were kept from the first piece on
-pub kept_bytes : (piece : List ℕ) (old new : Output) (first last : Grown) → old.bytes ≡ Some first → first.items ≡ [] → Longer piece old new → new.bytes ≡ Some last → last.refused ≡ false
-    → last.items ≡ piece
-kept_bytes piece old new first last begins none longer ends whole =
-    ap (λ o. (grown o).items) (sym ends)
-    ∙ (longer.bytes.whole (ap (λ o. (grown o).refused) ends ∙ whole)).1
-    ∙ ap (λ o. (grown o).items ++ piece) begins
-    ∙ ap (λ l. l ++ piece) none
 
 -- ---- a rest that is to come
 

@@ -1,5 +1,5 @@
 -- Texts that are written or only measured.
-use Rattle.std.specs.Prelude.{◌≡◌, ℕ, ◌+◌, List, [], length, Option, None, Some, true}
+use Rattle.std.specs.Prelude.{◌≡◌, ℕ, ◌+◌, List, [], length, Option, None, Some, is_some, true}
 use Rattle.cgl_num.specs.Growth.{Grown, Grows}
 use Rattle.cgl_deck.specs.DeckLength.{most}
 use Rattle.cgl_deck.specs.declared.output.Output.{Output}
@@ -9,7 +9,8 @@ abbrev pub grown : Option Grown → Grown
 grown None = record { items = []; refused = true }
 grown (Some bytes) = bytes
 
--- the text is longer by a piece, in its length and in its bytes
+-- the text is longer by a piece, in its length and in its bytes, which are kept where they were
 pub record Longer (piece : List ℕ) (old new : Output) : Type 0 where
+  pub kept : is_some new.bytes ≡ is_some old.bytes
   pub len : (n : ℕ) → old.len ≡ most n → new.len ≡ most (n + length piece)
   pub bytes : Grows piece (grown old.bytes) (grown new.bytes)

@@ -1,4 +1,4 @@
-ghost use Rattle.std.specs.Prelude.{◌≡◌, [], ◌∷◌, ◌++◌, ◌&&◌, codes, false, flat_map, length, map, not, pos, int_lt, IfOk};
+ghost use Rattle.std.specs.Prelude.{◌≡◌, [], ◌∷◌, ◌&&◌, codes, false, flat_map, length, map, not, pos, int_lt, IfOk};
 ghost use Rattle.cgl_num.specs.Decimal.{decimal_text};
 ghost use Rattle.cgl_deck.specs.DeckLength.{most};
 ghost use Rattle.cgl_deck.specs.DeckOutput.{Longer};
@@ -312,7 +312,7 @@ pub fn deck_text(alloc: Global, model: &Model) -> Result<Vec<u8>, Memory>
     add_deck(&mut output, model);
     match output.bytes {
         Some(bytes) => bytes.finish(),
-        None => Err(Memory),
+        None => unreachable!(),
     }
 }
 

@@ -8,8 +8,8 @@ ghost use Rattle.cgl_model.specs.PlaceOrder.{end_rank, rank, IsSideList, RanksRi
 use crate::row_lists::entries_of_rows;
 use crate::row_shape::shape_of_row;
 use crate::side_list::{add_column_sides, add_row_sides};
-use crate::{End, Place, Row, Seq, Side, Terms};
-use cgl_num::{Dec, Memory};
+use crate::{End, Place, Seq, Side, Terms};
+use cgl_num::Memory;
 use std::alloc::Global;
 
 /// A row that is not N in whole numbers, divided by the gcd of its coefficients, its right side and its range: the

@@ -1,4 +1,4 @@
-ghost use Rattle.std.specs.Prelude.{◌≡◌, ℕ, ◌++◌, ◌∷◌, [], ◌<◌, ◌≤◌, ◌^◌, Some, length, slice_index_or, IfOk, OnOk, if◌then◌else◌};
+ghost use Rattle.std.specs.Prelude.{◌≡◌, ℕ, ◌++◌, ◌∷◌, [], ◌<◌, ◌≤◌, ◌^◌, length, slice_index_or, IfOk, OnOk, if◌then◌else◌};
 ghost use Rattle.cgl_model.specs.RowEntries.{ends_in_column, entry_at, onto_entries, row_entries, AreEntriesBelow};
 
 use crate::{Entries, Model};

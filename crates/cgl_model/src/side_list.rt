@@ -1,10 +1,10 @@
-ghost use Rattle.std.specs.Prelude.{◌≡◌, ◌++◌, ◌∷◌, [], ◌<◌, ◌≤◌, ◌^◌, length, IfOk, OnOk};
+ghost use Rattle.std.specs.Prelude.{◌≡◌, ◌++◌, ◌∷◌, [], ◌≤◌, ◌^◌, length, IfOk, OnOk};
 ghost use Rattle.cgl_model.specs.IntegerForm.{IsNarrowShape, column_sides, column_sides_from, negated, row_sides};
 ghost use Rattle.cgl_model.specs.Rising.{IsCoefficient};
 
 use crate::scaling::bound_of;
 use crate::{Column, End, Ineq, Place, RowShape, Seq, Side, Terms};
-use cgl_num::{Dec, Memory};
+use cgl_num::Memory;
 use std::alloc::Global;
 
 fn negated_copy(alloc: Global, terms: &Terms) -> Result<Terms, Memory>

@@ -1,6 +1,6 @@
 //! Lines of a deck as records.
 
-ghost use Rattle.std.specs.Prelude.{◌≡◌, ◌&&◌, IfOk, if◌then◌else◌};
+ghost use Rattle.std.specs.Prelude.{◌≡◌, IfOk, if◌then◌else◌};
 ghost use Rattle.cgl_num.specs.Text.{is_one_of};
 ghost use Rattle.cgl_num.specs.Seen.{words};
 ghost use Rattle.cgl_mps.specs.Records.{first_word, is_kept, record_of, section_after, section_named, unsupported};

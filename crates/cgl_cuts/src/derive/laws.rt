@@ -1,4 +1,4 @@
-//! Laws that crates above rest on.
+//! Laws that generators and other crates rest on.
 
 ghost use Rattle.std.specs.Prelude.{ℤ};
 ghost use Rattle.cgl_model.specs.declared.linear.Ineq.{Ineq};

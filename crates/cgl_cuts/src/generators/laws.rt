@@ -1,4 +1,4 @@
-//! Laws of the generators, for the crates above.
+//! Laws of the generators, for what stands on them.
 
 ghost use Rattle.std.specs.Prelude.{◌≡◌, Some, map};
 ghost use Rattle.cgl_model.specs.declared.mip.Model.{Model};

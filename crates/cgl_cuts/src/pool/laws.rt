@@ -1,4 +1,4 @@
-//! Laws of the listed cuts, for the crates above.
+//! Laws of the listed cuts, for what stands on them.
 
 ghost use Rattle.std.specs.Prelude.{◌≡◌, List};
 ghost use Rattle.std.specs.declared.cmp.Ordering.TheVariants.{Equal};

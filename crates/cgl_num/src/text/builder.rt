@@ -7,8 +7,8 @@ use crate::Memory;
 use std::alloc::Global;
 use std::marker::Model;
 
-/// A text that grows by pieces. Where memory is refused for one, `finish` says so, and what was built counts for nothing.
-/// Contracts see what it grew by, and whether a piece was refused.
+/// A text that grows by pieces. Where memory is refused for one, `finish` says so, and what was built counts for
+/// nothing. Contracts see what it grew by, and whether a piece was refused.
 #[derive(Drop)]
 pub struct Builder {
     bytes: Vec<u8>,
