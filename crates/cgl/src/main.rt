@@ -1,4 +1,7 @@
 //! The program: makes the files and the outputs of the system, and calls the library.
+//!
+//! It ends with the status that `run` gives, or, where it has no words for `run`, with 7 or 9 and without a line. So its
+//! status is 0 to 9. The script that builds and starts it ends with 70 where there is no program to start.
 #![tactic(auto)]
 
 use cgl_app::run;

@@ -1,216 +1,178 @@
 -- The answers of `cut`, one by one, and what follows from each.
-use Rattle.std.proofs.Common.{◌≡◌, ◌≢◌, ◌∙◌, ℕ, Bool, true, false, List, Option, Some, None, Result, Ok, Err, true≢false, refl, sym, ap, subst, inl, inr}
+use Rattle.std.proofs.Common.{◌≡◌, ◌≢◌, ◌∙◌, ℕ, Bool, true, false, List, Option, Some, None, true≢false, refl, sym, ap, subst, inl, inr}
 use Rattle.cgl_model.specs.declared.mip.Model.{Model as Mip}
-use Rattle.cgl_model.specs.Point.{Point as Numbers}
 use Rattle.cgl_deck.specs.DeckText.{deck_text}
+use Rattle.cgl_decode.specs.DeckResult.{deck_result}
+use Rattle.cgl_where.specs.PointRead.{point_result}
+use Rattle.cgl_outside.specs.Means.{IsFaulty, IsRead}
+use Rattle.cgl_outside.specs.Script.{Came, ReadFailed, WriteFailed, PutFailed}
+use Rattle.cgl_outside.specs.ScriptLaws.{ReadCame, Unread, Short, Wrong, Right, read_came, no_fault, no_lack, same_meaning, only_put_failed, only_write_failed, unread_untouched}
 use Rattle.cgl_outside.specs.Shelf.{Held, Lacks}
 use Rattle.cgl_outside.specs.Sink.{with_put}
-use Rattle.cgl_outside.proofs.ShelfLaws.{told_by_file}
-use Rattle.cgl_model.specs.HasDecimals.{HasDecimals}
-use Rattle.cgl_mps.specs.DeckResult.{deck_result}
-use Rattle.cgl_mps.proofs.DeckResultLaws.{results_are_models}
-use Rattle.cgl_where.specs.PointRead.{point_result}
-use Rattle.cgl_app.specs.declared.refusal.File.{File}
-use Rattle.cgl_app.specs.declared.refusal.File.TheVariants.{Model, Point, Out, Proof, StandardOutput}
+use Rattle.cgl_outside.specs.View.{View}
+use Rattle.cgl_pool.specs.Task.{Task}
+use Rattle.cgl_app.specs.declared.refusal.CutFile.{CutFile}
+use Rattle.cgl_app.specs.declared.refusal.CutFile.TheVariants.{Model, Start, Out, Proof}
 use Rattle.cgl_app.specs.declared.refusal.Refusal.{Refusal}
-use Rattle.cgl_app.specs.declared.refusal.Refusal.TheVariants.{ReadFault, WriteFault, Input, TooLarge, Memory}
-use Rattle.cgl_app.specs.View.{View}
-use Rattle.cgl_app.specs.Script.{Script, Shows, Came, ReadFailed, WriteFailed, PutFailed}
-use Rattle.cgl_app.specs.Commands.{by_meaning, reads_file, by_extension, by_size, cut_writes, cut_works, cut_script}
+use Rattle.cgl_app.specs.declared.refusal.Refusal.TheVariants.{ReadFault, WriteFault, OutputFault, Input, TooLarge, Memory}
+use Rattle.cgl_app.specs.Below.{Below}
+use Rattle.cgl_app.specs.Commands.{by_extension, by_size, cut_starts, cut_writes, cut_works, cut_script}
+use Rattle.cgl_app.specs.CutAnswers.{IsToWrite, AtOut, AtProof, IsTooLarge, with_out, with_both, CutAnswer, CutCompletes}
 use Rattle.cgl_app.specs.CutOf.{extension, proofs_of, report_of, is_too_large}
-use Rattle.cgl_app.specs.Lines.{status_of}
-use Rattle.cgl_app.specs.Words.{CutWords}
-use Rattle.cgl_app.specs.Steps.{IsRead}
-use Rattle.cgl_app.specs.CutAnswers.{AreRead, Holds, InForm, IsToWrite, AtOut, AtProof, AtOutput, ExceedsSizes, IsTooLarge, with_out, with_both, CutAnswer, CutCompletes}
-use Rattle.cgl_app.proofs.CountLaws.{only_put_failed, only_write_failed, unread_untouched}
-use Rattle.cgl_app.proofs.CutMeaningLawsExtension.{refused_by_size}
-use Rattle.cgl_app.proofs.DoneLaws.{done}
+use Rattle.cgl_app.specs.CutTask.{HasStart, InForm, IsCutTask, IsFaultyStart, IsStart, task_at}
+use Rattle.cgl_app.specs.Refusals.{status_of}
+use Rattle.cgl_app.specs.Words.{Start as Source, AtPoint, start_name, CutWords}
+use Rattle.cgl_app.proofs.CutMeaningLaws.{refused_by_size}
+use Rattle.cgl_app.proofs.DoneLaws.{done, is_task}
 
--- ---- what may come of a read
+abbrev End : Type 0
+End = Option (Refusal CutFile)
 
-pub data ReadCame {A : Type 0} (file : File) (name : List ℕ) (meaning : List ℕ → Result A (ℕ × ℕ)) (next : A → Script) (b a : View) (end : Option Refusal) : Type 0 where
-  Unread : end ≡ Some (ReadFault file) → ReadFailed name b a → ReadCame file name meaning next b a end
-  Short : end ≡ Some Memory → a ≡ b → ReadCame file name meaning next b a end
-  Wrong : (text : List ℕ) (fault : ℕ × ℕ) → Shows b.held name text → meaning text ≡ Err fault → end ≡ Some (Input file fault.0 fault.1) → a ≡ b
-      → ReadCame file name meaning next b a end
-  Right : (x : A) → IsRead b.held name meaning x → Came (next x) b a end → ReadCame file name meaning next b a end
+abbrev faulty_model : ℕ → ℕ → Refusal CutFile
+faulty_model line kind = Input Model line kind
 
-by_text : {A : Type 0} (file : File) (name : List ℕ) (meaning : List ℕ → Result A (ℕ × ℕ)) (next : A → Script) (b a : View) (end : Option Refusal) (text : List ℕ)
-    → Shows b.held name text → (o : Result A (ℕ × ℕ)) → meaning text ≡ o → Came (by_meaning file next o) b a end → ReadCame file name meaning next b a end
-unfolding Came
-by_text file name meaning next b a end text shows (Err fault) e came = Wrong text fault shows e came.0 came.1
-by_text file name meaning next b a end text shows (Ok x) e came = Right x (record { text = text; shows = shows; is = e }) came
-
-pub read_came : {A : Type 0} (file : File) (name : List ℕ) (meaning : List ℕ → Result A (ℕ × ℕ)) (next : A → Script) (b a : View) (end : Option Refusal)
-    → Came (reads_file file name meaning next) b a end → ReadCame file name meaning next b a end
-unfolding Came reads_file
-read_came file name meaning next b a end (inl x) = Unread x.0 x.1
-read_came file name meaning next b a end (inr (inl x)) = Short x.0 x.1
-read_came file name meaning next b a end (inr (inr x)) = by_text file name meaning next b a end x.0 x.1 (meaning x.0) refl x.2
+abbrev faulty_start : ℕ → ℕ → Refusal CutFile
+faulty_start line kind = Input Start line kind
 
 -- ---- what may come of a cut
 
 abbrev pub GotModel : View → CutWords → Mip → Type 0
 GotModel b c m = IsRead b.held c.model deck_result m
 
-abbrev pub GotPoint : View → CutWords → Mip → Numbers → Type 0
-GotPoint b c m x = IsRead b.held c.point (point_result m) x
-
-pub data CutCame (c : CutWords) (b a : View) (end : Option Refusal) : Type 0 where
+pub data CutCame (c : CutWords) (b a : View) (end : End) : Type 0 where
   OutOfMemory : end ≡ Some Memory → a ≡ b → CutCame c b a end
   ModelUnread : end ≡ Some (ReadFault Model) → ReadFailed c.model b a → CutCame c b a end
-  ModelWrong : (text : List ℕ) (fault : ℕ × ℕ) → Shows b.held c.model text → deck_result text ≡ Err fault → end ≡ Some (Input Model fault.0 fault.1) → a ≡ b → CutCame c b a end
-  PointUnread : (m : Mip) → GotModel b c m → end ≡ Some (ReadFault Point) → ReadFailed c.point b a → CutCame c b a end
-  PointWrong : (m : Mip) → GotModel b c m → (text : List ℕ) (fault : ℕ × ℕ) → Shows b.held c.point text → point_result m text ≡ Err fault
-      → end ≡ Some (Input Point fault.0 fault.1) → a ≡ b → CutCame c b a end
-  Oversize : (m : Mip) (x : Numbers) → GotModel b c m → GotPoint b c m x → IsTooLarge m x → end ≡ Some TooLarge → a ≡ b → CutCame c b a end
-  OutUnwritten : (m n : Mip) (x : Numbers) → GotModel b c m → GotPoint b c m x → extension m x ≡ Some n → is_too_large n m x ≡ false → end ≡ Some (WriteFault Out)
+  ModelWrong : (line kind : ℕ) → IsFaulty b.held c.model deck_result line kind → end ≡ Some (Input Model line kind) → a ≡ b → CutCame c b a end
+  StartUnread : (m : Mip) → GotModel b c m → end ≡ Some (ReadFault Start) → ReadFailed (start_name c.start) b a → CutCame c b a end
+  StartWrong : (m : Mip) → GotModel b c m → (line kind : ℕ) → IsFaultyStart b.held c.start m line kind → end ≡ Some (Input Start line kind) → a ≡ b → CutCame c b a end
+  Oversize : (t : Task) → IsCutTask c b.held t → IsTooLarge t → end ≡ Some TooLarge → a ≡ b → CutCame c b a end
+  OutUnwritten : (n : Mip) (t : Task) → IsToWrite c b.held n t → end ≡ Some (WriteFault Out)
       → WriteFailed c.out (deck_text n) b a → CutCame c b a end
-  ProofUnwritten : (m n : Mip) (x : Numbers) → GotModel b c m → GotPoint b c m x → extension m x ≡ Some n → is_too_large n m x ≡ false → end ≡ Some (WriteFault Proof)
-      → WriteFailed c.proof (proofs_of m x) (record b { held = with_out c b.held n }) a → CutCame c b a end
-  ReportUnput : (m n : Mip) (x : Numbers) → GotModel b c m → GotPoint b c m x → extension m x ≡ Some n → is_too_large n m x ≡ false → end ≡ Some (WriteFault StandardOutput)
-      → PutFailed (report_of m x) (record b { held = with_both c b.held n m x }) a → CutCame c b a end
-  AllDone : (m n : Mip) (x : Numbers) → GotModel b c m → GotPoint b c m x → extension m x ≡ Some n → is_too_large n m x ≡ false → end ≡ None
-      → a ≡ record b { held = with_both c b.held n m x; told = with_put b.told (report_of m x) } → CutCame c b a end
+  ProofUnwritten : (n : Mip) (t : Task) → IsToWrite c b.held n t → end ≡ Some (WriteFault Proof)
+      → WriteFailed c.proof (proofs_of t) (record b { held = with_out c b.held n }) a → CutCame c b a end
+  ReportUnput : (n : Mip) (t : Task) → IsToWrite c b.held n t → end ≡ Some OutputFault
+      → PutFailed (report_of t) (record b { held = with_both c b.held n t }) a → CutCame c b a end
+  AllDone : (n : Mip) (t : Task) → IsToWrite c b.held n t → end ≡ None
+      → a ≡ record b { held = with_both c b.held n t; told = with_put b.told (report_of t) } → CutCame c b a end
 
-writes_came : (c : CutWords) (m n : Mip) (x : Numbers) (b a : View) (end : Option Refusal) → GotModel b c m → GotPoint b c m x → extension m x ≡ Some n → is_too_large n m x ≡ false
-    → Came (cut_writes c n m x) b a end → CutCame c b a end
+writes_came : (c : CutWords) (n : Mip) (t : Task) (b a : View) (end : End) → IsToWrite c b.held n t → Came Memory (cut_writes c n t) b a end → CutCame c b a end
 unfolding Came
-writes_came c m n x b a end gm gp e small (inl w) = OutUnwritten m n x gm gp e small w.0 w.1
-writes_came c m n x b a end gm gp e small (inr (inl w)) = ProofUnwritten m n x gm gp e small w.0 w.1
-writes_came c m n x b a end gm gp e small (inr (inr (inl w))) = ReportUnput m n x gm gp e small w.0 w.1
-writes_came c m n x b a end gm gp e small (inr (inr (inr w))) = AllDone m n x gm gp e small w.0 w.1
+writes_came c n t b a end w (inl x) = OutUnwritten n t w x.0 x.1
+writes_came c n t b a end w (inr (inl x)) = ProofUnwritten n t w x.0 x.1
+writes_came c n t b a end w (inr (inr (inl x))) = ReportUnput n t w x.0 x.1
+writes_came c n t b a end w (inr (inr (inr x))) = AllDone n t w x.0 x.1
 
-sized_came : (c : CutWords) (m n : Mip) (x : Numbers) (b a : View) (end : Option Refusal) → GotModel b c m → GotPoint b c m x → extension m x ≡ Some n
-    → (s : Bool) → is_too_large n m x ≡ s → Came (by_size c n m x s) b a end → CutCame c b a end
+sized_came : (c : CutWords) (n : Mip) (t : Task) (b a : View) (end : End) → IsCutTask c b.held t → extension t ≡ Some n
+    → (s : Bool) → is_too_large n t ≡ s → Came Memory (by_size c n t s) b a end → CutCame c b a end
 unfolding Came
-sized_came c m n x b a end gm gp e true large came = Oversize m x gm gp (inr (n, e, large)) came.0 came.1
-sized_came c m n x b a end gm gp e false small came = writes_came c m n x b a end gm gp e small came
+sized_came c n t b a end task e true large came = Oversize t task (inr (n, e, large)) came.0 came.1
+sized_came c n t b a end task e false small came = writes_came c n t b a end (record { task = task; extended_is = e; small = small }) came
 
-extended_came : (c : CutWords) (m : Mip) (x : Numbers) (b a : View) (end : Option Refusal) → GotModel b c m → GotPoint b c m x
-    → (o : Option Mip) → extension m x ≡ o → Came (by_extension c m x o) b a end → CutCame c b a end
+extended_came : (c : CutWords) (t : Task) (b a : View) (end : End) → IsCutTask c b.held t
+    → (o : Option Mip) → extension t ≡ o → Came Memory (by_extension c t o) b a end → CutCame c b a end
 unfolding Came
-extended_came c m x b a end gm gp None e came = Oversize m x gm gp (inl e) came.0 came.1
-extended_came c m x b a end gm gp (Some n) e came = sized_came c m n x b a end gm gp e (is_too_large n m x) refl came
+extended_came c t b a end task None e came = Oversize t task (inl e) came.0 came.1
+extended_came c t b a end task (Some n) e came = sized_came c n t b a end task e (is_too_large n t) refl came
 
-works_came : (c : CutWords) (m : Mip) (x : Numbers) (b a : View) (end : Option Refusal) → GotModel b c m → GotPoint b c m x
-    → Came (cut_works c m x) b a end → CutCame c b a end
+works_came : (c : CutWords) (t : Task) (b a : View) (end : End) → IsCutTask c b.held t → Came Memory (cut_works c t) b a end → CutCame c b a end
 unfolding Came
-works_came c m x b a end gm gp (inl w) = OutOfMemory w.0 w.1
-works_came c m x b a end gm gp (inr w) = extended_came c m x b a end gm gp (extension m x) refl w
+works_came c t b a end task (inl w) = OutOfMemory w.0 w.1
+works_came c t b a end task (inr w) = extended_came c t b a end task (extension t) refl w
 
-point_came : (c : CutWords) (m : Mip) (b a : View) (end : Option Refusal) → GotModel b c m
-    → ReadCame Point c.point (point_result m) (λ x. cut_works c m x) b a end → CutCame c b a end
-point_came c m b a end gm (Unread e why) = PointUnread m gm e why
-point_came c m b a end gm (Short e same) = OutOfMemory e same
-point_came c m b a end gm (Wrong text fault shows is e same) = PointWrong m gm text fault shows is e same
-point_came c m b a end gm (Right x gp came) = works_came c m x b a end gm gp came
+-- the words with another start
+abbrev starting : CutWords → Source → CutWords
+starting c start = record c { start = start }
 
-model_came : (c : CutWords) (b a : View) (end : Option Refusal)
-    → ReadCame Model c.model deck_result (λ m. reads_file Point c.point (point_result m) (λ x. cut_works c m x)) b a end → CutCame c b a end
+point_came : (c : CutWords) (name : List ℕ) (m : Mip) (b a : View) (end : End) → GotModel b c m
+    → ReadCame Memory (ReadFault Start) faulty_start name (point_result m) (λ x. cut_works (starting c (AtPoint name)) (task_at m x)) b a end
+    → CutCame (starting c (AtPoint name)) b a end
+point_came c name m b a end gm (Unread e why) = StartUnread m gm e why
+point_came c name m b a end gm (Short e same) = OutOfMemory e same
+point_came c name m b a end gm (Wrong line kind fault e same) = StartWrong m gm line kind fault e same
+point_came c name m b a end gm (Right x read came) =
+    works_came (starting c (AtPoint name)) (task_at m x) b a end (record { model = gm; start = read; is = refl }) came
+
+start_came : (c : CutWords) (start : Source) (m : Mip) (b a : View) (end : End) → GotModel b c m
+    → Came Memory (cut_starts (starting c start) m start) b a end → CutCame (starting c start) b a end
+start_came c (AtPoint name) m b a end gm came =
+    point_came c name m b a end gm (read_came Memory (ReadFault Start) faulty_start name (point_result m) (λ x. cut_works (starting c (AtPoint name)) (task_at m x)) b a end came)
+
+model_came : (c : CutWords) (b a : View) (end : End)
+    → ReadCame Memory (ReadFault Model) faulty_model c.model deck_result (λ m. cut_starts c m c.start) b a end → CutCame c b a end
 model_came c b a end (Unread e why) = ModelUnread e why
 model_came c b a end (Short e same) = OutOfMemory e same
-model_came c b a end (Wrong text fault shows is e same) = ModelWrong text fault shows is e same
-model_came c b a end (Right m gm came) = point_came c m b a end gm (read_came Point c.point (point_result m) (λ x. cut_works c m x) b a end came)
+model_came c b a end (Wrong line kind fault e same) = ModelWrong line kind fault e same
+model_came c b a end (Right m gm came) = start_came c c.start m b a end gm came
 
-pub cut_came : (c : CutWords) (b a : View) (end : Option Refusal) → Came (cut_script c) b a end → CutCame c b a end
-cut_came c b a end came = model_came c b a end (read_came Model c.model deck_result (λ m. reads_file Point c.point (point_result m) (λ x. cut_works c m x)) b a end came)
+pub cut_came : (c : CutWords) (b a : View) (end : End) → Came Memory (cut_script c) b a end → CutCame c b a end
+cut_came c b a end came = model_came c b a end (read_came Memory (ReadFault Model) faulty_model c.model deck_result (λ m. cut_starts c m c.start) b a end came)
 
 -- ---- answers
 
-are_read : (c : CutWords) (b : View) (m : Mip) (x : Numbers) → GotModel b c m → GotPoint b c m x → AreRead c b.held m x
-are_read c b m x gm gp = record { model_is = gm; point_is = gp }
-
-to_write : (c : CutWords) (b : View) (m n : Mip) (x : Numbers) → GotModel b c m → GotPoint b c m x → extension m x ≡ Some n → is_too_large n m x ≡ false → IsToWrite c b.held m n x
-to_write c b m n x gm gp e small = record { read = are_read c b m x gm gp; extended_is = e; small = small }
-
-two_texts : (text other : List ℕ) (o : Option (List ℕ)) → o ≡ Some text → o ≡ Some other → text ≡ other
-two_texts text other o e f = cc
-
-ok_is_no_err : {A : Type 0} (x : A) (fault : ℕ × ℕ) (o : Result A (ℕ × ℕ)) → o ≡ Ok x → o ≡ Err fault → ⊥
-ok_is_no_err x fault o e f = cc
-
-pub no_fault : {A : Type 0} (held : Held) (name : List ℕ) (meaning : List ℕ → Result A (ℕ × ℕ)) (x : A) (text : List ℕ) (fault : ℕ × ℕ)
-    → Holds held name meaning x → Shows held name text → meaning text ≡ Err fault → ⊥
-no_fault held name meaning x text fault h shows is =
-    let same = two_texts h.text text _ h.there (shows (told_by_file held name h.text h.there)) in
-    ok_is_no_err x fault (meaning text) (ap meaning (sym same) ∙ h.means) is
-
-pub no_lack : {A : Type 0} (held : Held) (name : List ℕ) (meaning : List ℕ → Result A (ℕ × ℕ)) (x : A) → Holds held name meaning x → Lacks held name → ⊥
-no_lack held name meaning x h lacks = let bad : ◌≡◌ {A = Option (List ℕ)} (Some h.text) None = sym h.there ∙ lacks.none in cc
-
--- two readings of one file mean the same
-ok_inj : {A : Type 0} (x y : A) (o : Result A (ℕ × ℕ)) → o ≡ Ok x → o ≡ Ok y → x ≡ y
-ok_inj x y o e f = cc
-
-pub same_meaning : {A : Type 0} (held : Held) (name : List ℕ) (meaning : List ℕ → Result A (ℕ × ℕ)) (x y : A) → Holds held name meaning x → IsRead held name meaning y → x ≡ y
-same_meaning held name meaning x y h got =
-    let same = two_texts h.text got.text _ h.there (got.shows (told_by_file held name h.text h.there)) in
-    ok_inj x y (meaning got.text) (ap meaning (sym same) ∙ h.means) got.is
-
-exceeded : (m : Mip) (x : Numbers) → HasDecimals m → extension m x ≡ None → ExceedsSizes m x
-exceeded m x decimals none = (refused_by_size m x decimals).0 none
-
 -- an answer at the end that stands
-at_end : (c : CutWords) (b a : View) (end stop : Option Refusal) → end ≡ stop → CutAnswer c b a stop → CutAnswer c b a end
-at_end c b a end stop e answer = let P : Option Refusal → Type 0 = λ x. CutAnswer c b a x in subst P (sym e) answer
+at_end : (c : CutWords) (b a : View) (end stop : End) → end ≡ stop → CutAnswer c b a stop → CutAnswer c b a end
+at_end c b a end stop e answer = let P : End → Type 0 = λ x. CutAnswer c b a x in subst P (sym e) answer
 
-pub cut_answer : (c : CutWords) (b a : View) (end : Option Refusal) → c.out ≢ c.proof → CutCame c b a end → CutAnswer c b a end
-cut_answer c b a end apart (OutOfMemory e same) = at_end c b a end _ e same
-cut_answer c b a end apart (ModelUnread e why) = at_end c b a end _ e (record { cause = why.cause; excused = unread_untouched _ b a why; rest = why.rest; order = inl refl })
-cut_answer c b a end apart (ModelWrong text fault shows is e same) = at_end c b a end _ e
-    (record { rest = same; first = inl (refl, record { text = text; shows = shows; fault = is }) })
-cut_answer c b a end apart (PointUnread m gm e why) = at_end c b a end _ e
-    (record { cause = why.cause; excused = unread_untouched _ b a why; rest = why.rest; order = inr (refl, (m, gm)) })
-cut_answer c b a end apart (PointWrong m gm text fault shows is e same) = at_end c b a end _ e
-    (record { rest = same; first = inr (refl, (m, gm, record { text = text; shows = shows; fault = is })) })
-cut_answer c b a end apart (Oversize m x gm gp large e same) = at_end c b a end _ e
-    (record { rest = same; m = m; x = x; read = are_read c b m x gm gp; cause = large; sizes = exceeded m x (results_are_models gm.text m gm.is).1 })
-cut_answer c b a end apart (OutUnwritten m n x gm gp is small e why) = at_end c b a end _ e
-    (AtOut m n x (to_write c b m n x gm gp is small) (only_write_failed b.held _ _ b a why) why.file (ap (λ v. v.told) why.rest))
-cut_answer c b a end apart (ProofUnwritten m n x gm gp is small e why) = at_end c b a end _ e
-    (AtProof m n x (to_write c b m n x gm gp is small) (only_write_failed _ _ _ b a why) why.file (ap (λ v. v.told) why.rest))
-cut_answer c b a end apart (ReportUnput m n x gm gp is small e why) = at_end c b a end _ e
-    (AtOutput m n x (to_write c b m n x gm gp is small) (only_put_failed _ _ b a why) (ap (λ v. v.held) why.rest) why.kept why.got)
-cut_answer c b a end apart (AllDone m n x gm gp is small e same) = at_end c b a end _ e
-    (done c b a m n x apart (to_write c b m n x gm gp is small) same)
+pub cut_answer : Below → (c : CutWords) (b a : View) (end : End) → c.out ≢ c.proof → CutCame c b a end → CutAnswer c b a end
+cut_answer below c b a end apart (OutOfMemory e same) = at_end c b a end _ e same
+cut_answer below c b a end apart (ModelUnread e why) = at_end c b a end _ e (record { cause = why.cause; excused = unread_untouched _ b a why; rest = why.rest; order = tt })
+cut_answer below c b a end apart (ModelWrong line kind fault e same) = at_end c b a end _ e (record { rest = same; first = fault })
+cut_answer below c b a end apart (StartUnread m gm e why) = at_end c b a end _ e
+    (record { cause = why.cause; excused = unread_untouched _ b a why; rest = why.rest; order = (m, gm) })
+cut_answer below c b a end apart (StartWrong m gm line kind fault e same) = at_end c b a end _ e (record { rest = same; first = (m, gm, fault) })
+cut_answer below c b a end apart (Oversize t task large e same) = at_end c b a end _ e
+    (record { rest = same; t = t; task = task; cause = large; sizes = (refused_by_size below t (is_task below c b.held t task)).0 })
+cut_answer below c b a end apart (OutUnwritten n t w e why) = at_end c b a end _ e
+    (AtOut n t w (only_write_failed b.held _ _ b a why) why.file (ap (λ v. v.told) why.rest))
+cut_answer below c b a end apart (ProofUnwritten n t w e why) = at_end c b a end _ e
+    (AtProof n t w (only_write_failed _ _ _ b a why) why.file (ap (λ v. v.told) why.rest))
+cut_answer below c b a end apart (ReportUnput n t w e why) = at_end c b a end _ e
+    (record { n = n; t = t; written = w; failed = only_put_failed _ _ b a why; files = ap (λ v. v.held) why.rest; kept = why.kept; got = why.got })
+cut_answer below c b a end apart (AllDone n t w e same) = at_end c b a end _ e (done below c b a n t apart w same)
+
+-- ---- where the files are in form
 
 one_extension : (n k : Mip) (o : Option Mip) → o ≡ Some n → o ≡ Some k → n ≡ k
 one_extension n k o e f = cc
 
-not_too_large : (m n : Mip) (x : Numbers) → extension m x ≡ Some n → is_too_large n m x ≡ false → IsTooLarge m x → ⊥
-not_too_large m n x is small (inl none) = let bad : ◌≡◌ {A = Option Mip} (Some n) None = sym is ∙ none in cc
-not_too_large m n x is small (inr large) =
-    true≢false (sym large.2 ∙ ap (λ k. is_too_large k m x) (one_extension large.0 n (extension m x) large.1 is) ∙ small)
+not_too_large : (n : Mip) (t : Task) → extension t ≡ Some n → is_too_large n t ≡ false → IsTooLarge t → ⊥
+not_too_large n t is small (inl none) = let bad : ◌≡◌ {A = Option Mip} (Some n) None = sym is ∙ none in cc
+not_too_large n t is small (inr large) =
+    true≢false (sym large.2 ∙ ap (λ k. is_too_large k t) (one_extension large.0 n (extension t) large.1 is) ∙ small)
 
-same_size : (m m2 : Mip) (x x2 : Numbers) → m ≡ m2 → x ≡ x2 → IsTooLarge m x → IsTooLarge m2 x2
-same_size m m2 x x2 em ex large =
-    let P : Mip → Type 0 = λ y. IsTooLarge y x2 in
-    let Q : Numbers → Type 0 = λ y. IsTooLarge m y in
-    subst P em (subst Q ex large)
+-- what is read of where the columns stand, for the model of the deck
+same_start : (held : Held) (start : Source) (t u : Task) → t.setting.model ≡ u.setting.model → HasStart held start t → IsStart held start u → t.setting.point ≡ u.setting.point
+same_start held (AtPoint name) t u em has read =
+    let P : Mip → Type 0 = λ y. IsRead held name (point_result y) u.setting.point in
+    same_meaning _ _ _ _ _ has (subst P (sym em) read)
 
--- the point was read for the model of the deck
-same_point : (c : CutWords) (b : View) (m m0 : Mip) (x x0 : Numbers) → InForm c b.held m0 x0 → m0 ≡ m → GotPoint b c m x → x0 ≡ x
-same_point c b m m0 x x0 h em gp =
-    let P : Mip → Type 0 = λ y. IsRead b.held c.point (point_result y) x in
-    same_meaning _ _ _ _ _ h.point_is (subst P (sym em) gp)
+same_task : (c : CutWords) (held : Held) (t u : Task) → InForm c held t → IsCutTask c held u → t ≡ u
+same_task c held t u h task =
+    let em = same_meaning _ _ _ _ _ h.model task.model in
+    let ex = same_start held c.start t u em h.start task.start in
+    h.is ∙ ap (λ m. task_at m t.setting.point) em ∙ ap (task_at u.setting.model) ex ∙ sym task.is
 
-pub completes : (c : CutWords) (b a : View) (end : Option Refusal) (s : ℕ) → s ≡ status_of end → CutCame c b a end → CutCompletes c b a s
-completes c b a end s is (OutOfMemory e same) m0 x0 h calm = inl (is ∙ ap status_of e)
-completes c b a end s is (ModelUnread e why) m0 x0 h calm = elim why.cause [ inl rose ↦ absurd (calm.reads rose) | inr lacks ↦ absurd (no_lack _ _ _ _ h.model_is lacks) ]
-completes c b a end s is (ModelWrong text fault shows f e same) m0 x0 h calm = absurd (no_fault _ _ _ _ text fault h.model_is shows f)
-completes c b a end s is (PointUnread m gm e why) m0 x0 h calm = elim why.cause [ inl rose ↦ absurd (calm.reads rose) | inr lacks ↦ absurd (no_lack _ _ _ _ h.point_is lacks) ]
-completes c b a end s is (PointWrong m gm text fault shows f e same) m0 x0 h calm =
-    let em = same_meaning _ _ _ _ _ h.model_is gm in
-    absurd (no_fault _ _ _ _ text fault h.point_is shows (ap (λ y. point_result y text) em ∙ f))
-completes c b a end s is (Oversize m x gm gp large e same) m0 x0 h calm =
-    let em = same_meaning _ _ _ _ _ h.model_is gm in
-    let ex = same_point c b m m0 x x0 h em gp in
-    inr (inr (same_size m m0 x x0 (sym em) (sym ex) large, is ∙ ap status_of e))
-completes c b a end s is (OutUnwritten m n x gm gp f sm e why) m0 x0 h calm = absurd (calm.writes why.cause)
-completes c b a end s is (ProofUnwritten m n x gm gp f sm e why) m0 x0 h calm = absurd (calm.writes why.cause)
-completes c b a end s is (ReportUnput m n x gm gp f sm e why) m0 x0 h calm = absurd (calm.faults why.cause)
-completes c b a end s is (AllDone m n x gm gp f sm e same) m0 x0 h calm =
-    let em = same_meaning _ _ _ _ _ h.model_is gm in
-    let ex = same_point c b m m0 x x0 h em gp in
-    inr (inl ((λ large. not_too_large m n x f sm (same_size m0 m x0 x em ex large)), is ∙ ap status_of e))
+no_start_fault : (held : Held) (start : Source) (t : Task) (m : Mip) (line kind : ℕ) → t.setting.model ≡ m → HasStart held start t → IsFaultyStart held start m line kind → ⊥
+no_start_fault held (AtPoint name) t m line kind em has fault =
+    let P : Mip → Type 0 = λ y. IsFaulty held name (point_result y) line kind in
+    no_fault _ _ _ _ line kind has (subst P (sym em) fault)
+
+no_start_lack : (held : Held) (start : Source) (t : Task) → HasStart held start t → Lacks held (start_name start) → ⊥
+no_start_lack held (AtPoint name) t has lacks = no_lack _ _ _ _ has lacks
+
+pub completes : (c : CutWords) (b a : View) (end : End) (s : ℕ) → s ≡ status_of end → CutCame c b a end → CutCompletes c b a s
+completes c b a end s is (OutOfMemory e same) t h calm = inl (is ∙ ap status_of e)
+completes c b a end s is (ModelUnread e why) t h calm = elim why.cause [ inl rose ↦ absurd (calm.reads rose) | inr lacks ↦ absurd (no_lack _ _ _ _ h.model lacks) ]
+completes c b a end s is (ModelWrong line kind fault e same) t h calm = absurd (no_fault _ _ _ _ line kind h.model fault)
+completes c b a end s is (StartUnread m gm e why) t h calm = elim why.cause [ inl rose ↦ absurd (calm.reads rose) | inr lacks ↦ absurd (no_start_lack b.held c.start t h.start lacks) ]
+completes c b a end s is (StartWrong m gm line kind fault e same) t h calm =
+    absurd (no_start_fault b.held c.start t m line kind (same_meaning _ _ _ _ _ h.model gm) h.start fault)
+completes c b a end s is (Oversize u task large e same) t h calm =
+    let P : Task → Type 0 = λ y. IsTooLarge y in
+    inr (inr (subst P (sym (same_task c b.held t u h task)) large, is ∙ ap status_of e))
+completes c b a end s is (OutUnwritten n u w e why) t h calm = absurd (calm.writes why.cause)
+completes c b a end s is (ProofUnwritten n u w e why) t h calm = absurd (calm.writes why.cause)
+completes c b a end s is (ReportUnput n u w e why) t h calm = absurd (calm.faults why.cause)
+completes c b a end s is (AllDone n u w e same) t h calm =
+    let P : Task → Type 0 = λ y. IsTooLarge y in
+    inr (inl ((λ large. not_too_large n u w.extended_is w.small (subst P (same_task c b.held t u h w.task) large)), is ∙ ap status_of e))

@@ -1,129 +1,134 @@
--- What each listed cut is.
-use Rattle.std.proofs.Common.{◌≡◌, ℕ, ◌+◌, List, [], ◌∷◌, refl, Bool, true, false, cond}
-use Rattle.std.specs.Prelude.{Some, filter}
-use Rattle.std.specs.List.{AllByRecursion, cons_option}
-use Rattle.std.specs.Ordering.{match_ordering}
-use Rattle.std.specs.declared.cmp.Ordering.{Ordering}
-use Rattle.std.specs.declared.cmp.Ordering.TheVariants.{Less, Equal, Greater}
+-- What the listed cuts of a task are, and the model with them as further rows.
+use Rattle.std.proofs.Common.{◌≡◌, ℕ, zero, suc, ℤ, pos, negsuc, ◌^◌, ◌≤◌, ◌<◌, ◌/◌, nat_lt, ap, refl, ◌∙◌, arith, lit<, Bool, true, false, cond, not, ◌&&◌, List, [], ◌∷◌, map, IsTrue}
+use Rattle.std.specs.Prelude.{◌↔◌, unsigned_abs, length, Some, None, is_some}
+use Rattle.std.specs.List.{AllByRecursion, list_all}
+use Rattle.std.proofs.lemmas.Bool.{lt-ltb}
+use Rattle.std.proofs.Math.Nat.{div-le_self}
+use Rattle.std.proofs.Math.IntN.{neg_ℤ}
+use Rattle.cgl_num.specs.Decimal.{Decimal, decimal_of, normal_of, zeros_within}
+use Rattle.cgl_model.specs.declared.linear.Ineq.{Ineq}
+use Rattle.cgl_model.specs.declared.mip.Column.{Column}
 use Rattle.cgl_model.specs.declared.mip.Model.{Model}
-use Rattle.cgl_model.specs.declared.places.Side.{Side}
-use Rattle.cgl_model.specs.Feasible.{IsFeasible}
-use Rattle.cgl_model.specs.HasDecimals.{HasDecimals}
-use Rattle.cgl_model.specs.Inequality.{Meets}
-use Rattle.cgl_model.specs.IntegerForm.{forms_of}
+use Rattle.cgl_model.specs.Feasible.{IsFeasible, SamePoints}
+use Rattle.cgl_model.specs.Inequality.{Meets, Term}
 use Rattle.cgl_model.specs.Point.{Point}
 use Rattle.cgl_model.specs.Rising.{IsRising}
-use Rattle.cgl_model.proofs.ColumnLaws.{sides_below}
-use Rattle.cgl_model.proofs.RisingLaws.{sides_rising}
-use Rattle.cgl_model.proofs.SideLaws.{feasible_sides}
-use Rattle.cgl_cuts.specs.declared.derive.answer.Answer.{Answer}
-use Rattle.cgl_cuts.specs.declared.derive.answer.Answer.TheVariants.{Nothing, Cut, Wide}
-use Rattle.cgl_cuts.specs.declared.derive.answer.Candidate.{Candidate}
-use Rattle.cgl_cuts.specs.Derives.{AreColumns}
-use Rattle.cgl_cuts.specs.Meaning.{side_at}
-use Rattle.cgl_cuts.specs.RoundMember.{round_member}
-use Rattle.cgl_cuts.proofs.CutProofs.{cut_has, cut_sound}
-use Rattle.cgl_cuts.specs.declared.pool.pool.Kept.{Kept}
-use Rattle.cgl_cuts.specs.declared.pool.pool.Stamped.{Stamped}
-use Rattle.cgl_cuts.specs.InequalityOrder.{ineq_cmp}
-use Rattle.cgl_cuts.specs.Listed.{Key, by_inequality, cuts_among, insert_kept, is_least, kept_by, listed}
-use Rattle.cgl_app.specs.CutAnswers.{IsRightCut}
+use Rattle.cgl_model.specs.Valid.{IsColumn, IsValid}
+use Rattle.cgl_gen.specs.CutLaws.{IsCutAt}
+use Rattle.cgl_gen.specs.Listable.{IsListable}
+use Rattle.cgl_pool.specs.declared.kept.Kept.{Kept}
+use Rattle.cgl_pool.specs.Task.{IsTask, Task, listed_cuts}
+use Rattle.cgl_deck.specs.Extended.{AreRising, extended, is_decimal, is_known, is_within_sizes, with_rows}
+use Rattle.cgl_app.specs.Below.{Below}
+use Rattle.cgl_app.specs.CutAnswers.{ExceedsSizes, IsRightCut}
 use Rattle.cgl_app.specs.CutMeaning.{AreRight, MeetsListed}
-use Rattle.cgl_app.specs.CutOf.{answers, listed_cuts, round_answers_from}
-use Rattle.cgl_app.proofs.CutMeaningLawsPlaces.{sides_found}
+use Rattle.cgl_app.specs.CutOf.{cuts_of, extension, inequality_of}
 
--- ---- what all cuts among the answers have, the listed ones have
+-- each item has what follows from what each item has
+all_follow : {A : Type 0} (P Q : A → Type 0) → ((a : A) → P a → Q a) → (xs : List A) → AllByRecursion P xs → AllByRecursion Q xs
+all_follow P Q f [] all = tt
+all_follow P Q f (x ∷ xs) all = (f x all.0, all_follow P Q f xs all.1)
 
-all_kept : (P : Kept → Type 0) (k : Kept) (cuts : List Kept) (kept : Bool) → P k → AllByRecursion P cuts → AllByRecursion P (cond kept (k ∷ cuts) cuts)
-all_kept P k cuts true h a = (h, a)
-all_kept P k cuts false h a = a
-
-all_filtered : (P : Kept → Type 0) (p : Kept → Bool) (cuts : List Kept) → AllByRecursion P cuts → AllByRecursion P (filter p cuts)
-all_filtered P p [] a = tt
-all_filtered P p (k ∷ cuts) a = all_kept P k (filter p cuts) (p k) a.0 (all_filtered P p cuts a.1)
-
-all_in_order : (P : Kept → Type 0) (k other : Kept) (cuts more : List Kept) (order : Ordering) → P k → P other → AllByRecursion P cuts → AllByRecursion P more
-    → AllByRecursion P (match_ordering order (k ∷ other ∷ cuts) (k ∷ other ∷ cuts) (other ∷ more))
-all_in_order P k other cuts more Less h g a b = (h, (g, a))
-all_in_order P k other cuts more Equal h g a b = (h, (g, a))
-all_in_order P k other cuts more Greater h g a b = (g, b)
-
-all_inserted : (P : Kept → Type 0) (k : Kept) (cuts : List Kept) → P k → AllByRecursion P cuts → AllByRecursion P (insert_kept k cuts)
-all_inserted P k [] h a = (h, tt)
-all_inserted P k (other ∷ cuts) h a =
-    all_in_order P k other cuts (insert_kept k cuts) (ineq_cmp k.candidate.cut other.candidate.cut) h a.0 a.1 (all_inserted P k cuts h a.1)
-
-all_sorted : (P : Kept → Type 0) (cuts : List Kept) → AllByRecursion P cuts → AllByRecursion P (by_inequality cuts)
-all_sorted P [] a = tt
-all_sorted P (k ∷ cuts) a = all_inserted P k (by_inequality cuts) a.0 (all_sorted P cuts a.1)
-
-all_listed : (P : Kept → Type 0) (given : List Stamped) → AllByRecursion P (cuts_among given) → AllByRecursion P (listed given)
-unfolding listed
-all_listed P given a = all_sorted P _ (all_filtered P (is_least (cuts_among given)) (cuts_among given) a)
-
--- ---- each cut is one of a side
-
--- what each cut of the side has
-abbrev pub Gives : (Kept → Type 0) → Model → Point → Side → Type 0
-Gives P m x s = (key : Key) (c : Candidate) → round_member m x s ≡ Cut c → P (record { key = key; candidate = c })
-
-one_answer : (P : Kept → Type 0) (key : Key) (answer : Answer) (cuts : List Kept) → ((c : Candidate) → answer ≡ Cut c → P (record { key = key; candidate = c }))
-    → AllByRecursion P cuts → AllByRecursion P (cons_option (kept_by key answer) cuts)
-one_answer P key Nothing cuts h a = a
-one_answer P key Wide cuts h a = a
-one_answer P key (Cut c) cuts h a = (h c refl, a)
-
-all_answers : (P : Kept → Type 0) (m : Model) (x : Point) (i : ℕ) (sides : List Side) → AllByRecursion (Gives P m x) sides → AllByRecursion P (cuts_among (round_answers_from m x i sides))
-all_answers P m x i [] a = tt
-all_answers P m x i (s ∷ sides) a =
-    one_answer P (0, i) (round_member m x s) (cuts_among (round_answers_from m x (i + 1) sides)) (λ c e. a.0 (0, i) c e) (all_answers P m x (i + 1) sides a.1)
-
-pub all_cuts : (P : Kept → Type 0) (m : Model) (x : Point) → AllByRecursion (Gives P m x) (forms_of m).sides → AllByRecursion P (listed_cuts m x)
-unfolding answers
-all_cuts P m x a = all_listed P (answers m x) (all_answers P m x 0 (forms_of m).sides a)
-
--- ---- what each side has
-
-pub record IsGoodSide (m : Model) (s : Side) : Type 0 where
-  pub found : side_at (forms_of m).sides s.place ≡ Some s.ineq
-  pub columns : AreColumns m s.ineq.terms
-  pub rising : IsRising s.ineq.terms
-
-good_sides : (m : Model) (sides : List Side) → AllByRecursion (λ s. side_at (forms_of m).sides s.place ≡ Some s.ineq) sides → AllByRecursion (λ s. AreColumns m s.ineq.terms) sides
-    → AllByRecursion (λ s. IsRising s.ineq.terms) sides → AllByRecursion (IsGoodSide m) sides
-good_sides m [] f c r = tt
-good_sides m (s ∷ sides) f c r = (record { found = f.0; columns = c.0; rising = r.0 }, good_sides m sides f.1 c.1 r.1)
-
-pub sides_good : (m : Model) → HasDecimals m → AllByRecursion (IsGoodSide m) (forms_of m).sides
-sides_good m h = good_sides m (forms_of m).sides (sides_found m) (sides_below m) (sides_rising m h)
-
-pub each_side : (P Q : Side → Type 0) → ((s : Side) → P s → Q s) → (sides : List Side) → AllByRecursion P sides → AllByRecursion Q sides
-each_side P Q f [] a = tt
-each_side P Q f (s ∷ sides) a = (f s a.0, each_side P Q f sides a.1)
+abbrev Keeps : Task → Kept → Type 0
+Keeps t k = IsCutAt t.setting.model t.setting.point k.candidate
 
 -- ---- the listed cuts are right, and each feasible point meets them
 
-right_cut : (m : Model) (x : Point) (s : Side) → IsGoodSide m s → Gives (IsRightCut m x) m x s
-right_cut m x s good key c e =
-    let has = cut_has m x s c e good.found good.columns good.rising in
-    record { violation_is = has.violation; violated = has.violated; derived = has.derives }
+pub cuts_right : Below → (t : Task) → IsTask t → AreRight t
+cuts_right below t task =
+    all_follow (Keeps t) (IsRightCut t) (λ k has. record { violation_is = has.violation; violated = has.violated; derived = has.derives })
+    (listed_cuts t) (below.listed.cuts t task)
 
-pub cuts_right : (m : Model) (x : Point) → HasDecimals m → AreRight m x
-cuts_right m x h = all_cuts (IsRightCut m x) m x (each_side (IsGoodSide m) (Gives (IsRightCut m x) m x) (λ s good. right_cut m x s good) (forms_of m).sides (sides_good m h))
+pub cuts_met : Below → (t : Task) → IsTask t → (y : Point) → IsFeasible t.setting.model y → MeetsListed t y
+cuts_met below t task y feasible =
+    all_follow (Keeps t) (λ k. Meets y (inequality_of k))
+    (λ k has. below.derived.sound t.setting.model [] k.candidate.derivation k.candidate.cut y task.setting.decimals has.derives feasible tt)
+    (listed_cuts t) (below.listed.cuts t task)
 
-record IsMetSide (m : Model) (y : Point) (s : Side) : Type 0 where
-  good : IsGoodSide m s
-  met : Meets y s.ineq
+-- ---- numbers below 10^24 are decimals
 
-met_sides : (m : Model) (y : Point) (sides : List Side) → AllByRecursion (IsGoodSide m) sides → AllByRecursion (λ s. Meets y s.ineq) sides → AllByRecursion (IsMetSide m y) sides
-met_sides m y [] g a = tt
-met_sides m y (s ∷ sides) g a = (record { good = g.0; met = a.0 }, met_sides m y sides g.1 a.1)
+abs_opposite : (n : ℕ) → unsigned_abs (neg_ℤ (pos n)) ≡ n
+abs_opposite zero = refl
+abs_opposite (suc n) = refl
 
-met_cut : (m : Model) (x y : Point) (s : Side) → IsFeasible m y → IsMetSide m y s → Gives (λ k. Meets y k.candidate.cut) m x s
-met_cut m x y s f met key c e = cut_sound m x s c e met.good.columns met.good.rising y f met.met
+normal_small : (n : ℤ) → unsigned_abs (normal_of n).m ≤ unsigned_abs n
+normal_small (pos zero) = omega arith
+normal_small (pos (suc n)) = div-le_self (suc n) (10 ^ zeros_within (suc n) (suc n))
+normal_small (negsuc n) = omega (arith, abs_opposite (suc n / (10 ^ zeros_within (suc n) (suc n))), div-le_self (suc n) (10 ^ zeros_within (suc n) (suc n)))
 
-pub cuts_met : (m : Model) (x : Point) → HasDecimals m → (y : Point) → IsFeasible m y → MeetsListed m x y
-cuts_met m x h y f =
-    let P : Kept → Type 0 = λ k. Meets y k.candidate.cut in
-    all_cuts P m x (each_side (IsMetSide m y) (Gives P m x) (λ s met. met_cut m x y s f met) (forms_of m).sides
-    (met_sides m y (forms_of m).sides (sides_good m h) (feasible_sides m y h f)))
+both_small : (a b : Bool) (d : Decimal) → a ≡ true → b ≡ true → is_some (cond (a && b) (Some d) None) ≡ true
+both_small true true d e f = refl
+both_small true false d e f = f
+both_small false b d e f = e
+
+small_decimal : (n : ℤ) → unsigned_abs n < 10 ^ 24 → is_some (decimal_of n) ≡ true
+unfolding decimal_of
+small_decimal n h =
+    let less = normal_small n in
+    let wide : 10 ^ 24 < 10 ^ 36 = lit< tt in
+    both_small (nat_lt (unsigned_abs (normal_of n).m) (10 ^ 24)) (nat_lt (unsigned_abs n) (10 ^ 36)) (normal_of n) (lt-ltb _ _ (omega arith)) (lt-ltb _ _ (omega arith))
+
+small_decimals : (terms : List Term) → AllByRecursion (λ t. unsigned_abs t.1 < 10 ^ 24) terms → list_all (λ t. is_some (decimal_of t.1)) terms ≡ true
+small_decimals [] h = refl
+small_decimals (t ∷ terms) h = ap (λ b. b && list_all (λ u. is_some (decimal_of u.1)) terms) (small_decimal t.1 h.0) ∙ small_decimals terms h.1
+
+listable_decimal : (c : Ineq) → IsListable c → is_decimal c ≡ true
+listable_decimal c h = ap (λ b. b && is_some (decimal_of c.rhs)) (small_decimals c.terms h.terms) ∙ small_decimal c.rhs h.rhs
+
+-- ---- the listed cuts as rows
+
+all_below : (n : ℕ) (terms : List Term) → AllByRecursion (λ t. t.0 < n) terms → list_all (λ t. nat_lt t.0 n) terms ≡ true
+all_below n [] h = refl
+all_below n (t ∷ terms) h = ap (λ b. b && list_all (λ u. nat_lt u.0 n) terms) (lt-ltb t.0 n h.0) ∙ all_below n terms h.1
+
+columns_known : Below → (t : Task) (k : Kept) → Keeps t k → is_known t.setting.model (inequality_of k) ≡ true
+columns_known below t k has =
+    all_below (length t.setting.model.cols) (inequality_of k).terms
+    (below.derived.columns t.setting.model [] k.candidate.derivation k.candidate.cut has.derives has.ends)
+
+all_true : (p : Ineq → Bool) (kept : List Kept) → AllByRecursion (λ k. p (inequality_of k) ≡ true) kept → list_all p (map inequality_of kept) ≡ true
+all_true p [] all = refl
+all_true p (k ∷ kept) all = ap (λ b. b && list_all p (map inequality_of kept)) all.0 ∙ all_true p kept all.1
+
+all_mapped : (P : Ineq → Type 0) (kept : List Kept) → AllByRecursion (λ k. P (inequality_of k)) kept → AllByRecursion P (map inequality_of kept)
+all_mapped P [] all = tt
+all_mapped P (k ∷ kept) all = (all.0, all_mapped P kept all.1)
+
+cuts_known : Below → (t : Task) → IsTask t → list_all (is_known t.setting.model) (cuts_of t) ≡ true
+cuts_known below t task =
+    all_true (is_known t.setting.model) (listed_cuts t)
+    (all_follow (Keeps t) (λ k. is_known t.setting.model (inequality_of k) ≡ true) (columns_known below t) (listed_cuts t) (below.listed.cuts t task))
+
+cuts_decimal : Below → (t : Task) → IsTask t → list_all is_decimal (cuts_of t) ≡ true
+cuts_decimal below t task =
+    all_true is_decimal (listed_cuts t)
+    (all_follow (Keeps t) (λ k. is_decimal (inequality_of k) ≡ true) (λ k has. listable_decimal (inequality_of k) has.listable) (listed_cuts t) (below.listed.cuts t task))
+
+cuts_rising : Below → (t : Task) → IsTask t → AreRising (cuts_of t)
+cuts_rising below t task =
+    all_mapped (λ c. IsRising c.terms) (listed_cuts t)
+    (all_follow (Keeps t) (λ k. IsRising (inequality_of k).terms) (λ k has. has.rising) (listed_cuts t) (below.listed.cuts t task))
+
+-- ---- the extension
+
+in_rows : (rows : ℕ) (cols : List Column) → AllByRecursion (IsColumn rows) cols → AllByRecursion (λ c. AllByRecursion (λ e. e.0 < rows) c.entries) cols
+in_rows rows cols = all_follow (IsColumn rows) (λ c. AllByRecursion (λ e. e.0 < rows) c.entries) (λ c has. has.known) cols
+
+pub same_points : Below → (t : Task) (n : Model) → IsTask t → IsValid t.setting.model → extension t ≡ Some n → SamePoints t.setting.model n
+same_points below t n task valid e =
+    let m = t.setting.model in
+    below.extensions.points m n (cuts_of t) e (in_rows (length m.rows) m.cols valid.columns) (cuts_rising below t task)
+    (λ y feasible. all_mapped (Meets y) (listed_cuts t) (cuts_met below t task y feasible))
+
+none_by_size : (a b c : Bool) (n : Model) → a ≡ true → b ≡ true → (cond (a && b && c) (Some n) None ≡ None) ↔ IsTrue (not c)
+none_by_size true true true n e f = ((λ h. cc), (λ h. cc))
+none_by_size true true false n e f = ((λ h. refl), (λ h. refl))
+none_by_size true false c n e f = absurd (cc)
+none_by_size false b c n e f = absurd (cc)
+
+pub refused_by_size : Below → (t : Task) → IsTask t → (extension t ≡ None) ↔ ExceedsSizes t
+unfolding extended
+refused_by_size below t task =
+    let m = t.setting.model in
+    none_by_size (list_all (is_known m) (cuts_of t)) (list_all is_decimal (cuts_of t)) (is_within_sizes m (cuts_of t)) (with_rows m (cuts_of t))
+    (cuts_known below t task) (cuts_decimal below t task)

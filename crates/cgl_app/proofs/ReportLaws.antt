@@ -5,10 +5,10 @@ use Rattle.std.specs.Fmt.{decimal}
 use Rattle.std.specs.Prelude.{sum_by}
 use Rattle.cgl_num.specs.Fraction.{fraction_text}
 use Rattle.cgl_model.specs.declared.mip.Model.{Model}
-use Rattle.cgl_cuts.specs.declared.pool.pool.Kept.{Kept}
-use Rattle.cgl_cuts.specs.Listed.{Key}
-use Rattle.cgl_num.specs.Growth.{Grown, Grows}
-use Rattle.cgl_num.proofs.GrowthLaws.{grows_as, grows_nothing, grows_then, more_grows}
+use Rattle.cgl_pool.specs.declared.kept.Kept.{Kept}
+use Rattle.cgl_pool.specs.Listed.{Key}
+use Rattle.cgl_text.specs.Growth.{Grown, Grows}
+use Rattle.cgl_text.specs.GrowthLaws.{grows_as, grows_nothing, grows_then, more_grows}
 use Rattle.cgl_app.specs.Report.{counts_text, cut_line, generator_word, key_text, report_text, wide_line}
 
 -- a number behind its word, and both behind a text

@@ -1,4 +1,4 @@
--- From the steps of a cut in memory to its texts.
+-- From the steps of a cut in memory to what it writes.
 use Rattle.std.specs.Result.{result_err}
 use Rattle.std.proofs.lemmas.List.{map-append}
 use Rattle.std.proofs.Common.{◌≡◌, ◌++◌, ◌^◌, ℕ, Bool, arith, nat_lt, true, false, ◌||◌, List, [], ◌∷◌, length, map, zip, Some, None, Vec, Result, Ok, Err, IfErr, refl, sym, ap, subst, ◌∙◌, ◌⊎◌, inl, inr}
@@ -6,19 +6,21 @@ use Rattle.std.proofs.lemmas.Bool.Decides.{nat_tests}
 use Rattle.std.specs.declared.alloc.Global.{Global}
 use Rattle.cgl_model.specs.declared.linear.Ineq.{Ineq}
 use Rattle.cgl_model.specs.declared.mip.Model.{Model}
-use Rattle.cgl_model.specs.Point.{Point}
-use Rattle.cgl_cuts.specs.declared.derive.step.Derivation.{Derivation}
+use Rattle.cgl_model.specs.Valid.{IsValid}
+use Rattle.cgl_derive.specs.declared.step.Derivation.{Derivation}
 use Rattle.cgl_deck.specs.CutNames.{cut_names}
 use Rattle.cgl_deck.specs.DeckLength.{most}
 use Rattle.cgl_deck.specs.DeckText.{deck_text}
 use Rattle.cgl_deck.specs.Extended.{extended}
-use Rattle.cgl_cuts.specs.declared.pool.pool.Kept.{Kept}
-use Rattle.cgl_cuts.specs.Listed.{Key, wides}
-use Rattle.cgl_cuts.specs.ProofText.{proof_text}
+use Rattle.cgl_pool.specs.declared.kept.Kept.{Kept}
+use Rattle.cgl_pool.specs.Listed.{Key}
+use Rattle.cgl_pool.specs.Task.{Task, listed_cuts, wide_keys}
+use Rattle.cgl_prooftext.specs.ProofText.{proof_text}
+use Rattle.cgl_app.specs.declared.refusal.CutFile.{CutFile}
 use Rattle.cgl_app.specs.declared.refusal.Refusal.{Refusal}
 use Rattle.cgl_app.specs.declared.refusal.Refusal.TheVariants.{TooLarge, Memory}
-use Rattle.cgl_app.specs.CutOf.{answers, extension, inequality_of, is_too_large, is_too_long, listed_cuts, proof_of, proofs_of, report_of}
-use Rattle.cgl_app.specs.CutSteps.{AreTexts, IsExtendedText, TextsRefused, derivation_of}
+use Rattle.cgl_app.specs.CutOf.{extension, inequality_of, is_too_large, is_too_long, proof_of, report_of}
+use Rattle.cgl_app.specs.CutSteps.{AreTexts, TextsRefused, derivation_of}
 use Rattle.cgl_app.specs.Report.{report_text}
 
 -- one more item
@@ -29,9 +31,9 @@ pub with_err : {A E : Type 0} (P : E → Type 0) (result : Result A E) (e : E) �
 with_err P (Ok x) e is p = tt
 with_err P (Err y) e is p = let same : e ≡ y = cc in subst P same p
 
-pub deck_made : (m : Model) (listed : List Kept) (cuts lent : List Ineq) (deck : Vec ℕ Global) → cuts ≡ map inequality_of listed → lent ≡ cuts
-    → IsExtendedText m lent deck → IsExtendedText m (map inequality_of listed) deck
-deck_made m listed cuts lent deck ec el t = let P : List Ineq → Type 0 = λ c. IsExtendedText m c deck in subst P (el ∙ ec) t
+pub deck_made : (m n : Model) (listed : List Kept) (cuts lent : List Ineq) → cuts ≡ map inequality_of listed → lent ≡ cuts
+    → extended m lent ≡ Some n → extended m (map inequality_of listed) ≡ Some n
+deck_made m n listed cuts lent ec el e = ap (extended m) (sym (el ∙ ec)) ∙ e
 
 zipped : (cuts : List Kept) → zip (map inequality_of cuts) (map derivation_of cuts) ≡ map proof_of cuts
 zipped [] = refl
@@ -42,46 +44,42 @@ pub proofs_made : (listed : List Kept) (cuts : List Ineq) (derivations : List De
 proofs_made listed cuts derivations text ec ed e =
     e ∙ ap (λ a. proof_text (zip a derivations)) ec ∙ ap (λ b. proof_text (zip (map inequality_of listed) b)) ed ∙ ap proof_text (zipped listed)
 
-pub lengths_are : (a b deck proofs : List ℕ) (large t : Bool) → a ≡ deck → b ≡ proofs → large ≡ (is_too_long a || is_too_long b) → large ≡ t
-    → (is_too_long deck || is_too_long proofs) ≡ t
-lengths_are a b deck proofs large t ea eb e is =
-    sym (e ∙ ap (λ z. is_too_long z || is_too_long b) ea ∙ ap (λ z. is_too_long deck || is_too_long z) eb) ∙ is
+pub lengths_are : (n : Model) (b proofs : List ℕ) (large t : Bool) → b ≡ proofs → large ≡ (is_too_long (deck_text n) || is_too_long b) → large ≡ t
+    → (is_too_long (deck_text n) || is_too_long proofs) ≡ t
+lengths_are n b proofs large t eb e is = sym (e ∙ ap (λ z. is_too_long (deck_text n) || is_too_long z) eb) ∙ is
 
-extended_is : (m : Model) (x : Point) (listed : List Kept) (deck : Vec ℕ Global) → listed ≡ listed_cuts m x → (t : IsExtendedText m (map inequality_of listed) deck)
-    → extension m x ≡ Some t.n
-extended_is m x listed deck is t = ap (λ z. extended m (map inequality_of z)) (sym is) ∙ t.extended_is
+extended_is : (m n : Model) (t : Task) (listed : List Kept) → t.setting.model ≡ m → listed ≡ listed_cuts t → extended m (map inequality_of listed) ≡ Some n → extension t ≡ Some n
+extended_is m n t listed em is e = ap (λ y. extended y (map inequality_of (listed_cuts t))) em ∙ ap (λ z. extended m (map inequality_of z)) (sym is) ∙ e
 
-size_is : (m n : Model) (x : Point) (listed : List Kept) (deck proofs : List ℕ) (t : Bool) → listed ≡ listed_cuts m x → deck ≡ deck_text n → proofs ≡ proof_text (map proof_of listed)
-    → (is_too_long deck || is_too_long proofs) ≡ t → is_too_large n m x ≡ t
+size_is : (n : Model) (t : Task) (listed : List Kept) (proofs : List ℕ) (s : Bool) → listed ≡ listed_cuts t → proofs ≡ proof_text (map proof_of listed)
+    → (is_too_long (deck_text n) || is_too_long proofs) ≡ s → is_too_large n t ≡ s
 unfolding is_too_large
-size_is m n x listed deck proofs t is ed ep e =
-    ap (λ z. is_too_long z || is_too_long (proofs_of m x)) (sym ed) ∙ ap (λ z. is_too_long deck || is_too_long z) (sym (ep ∙ ap (λ l. proof_text (map proof_of l)) is)) ∙ e
+size_is n t listed proofs s is ep e = ap (λ z. is_too_long (deck_text n) || is_too_long z) (sym (ep ∙ ap (λ l. proof_text (map proof_of l)) is)) ∙ e
 
-pub deck_refused : (m : Model) (x : Point) (listed : List Kept) (cuts lent : List Ineq) (refusal : Refusal) → cuts ≡ map inequality_of listed → lent ≡ cuts
-    → (refusal ≡ Memory) ⊎ ((refusal ≡ TooLarge) × (extended m lent ≡ None)) → listed ≡ listed_cuts m x → TextsRefused m x refusal
-deck_refused m x listed cuts lent refusal ec el (inl memory) is = inl memory
-deck_refused m x listed cuts lent refusal ec el (inr none) is =
-    inr (none.0, inl (ap (λ z. extended m (map inequality_of z)) (sym is) ∙ ap (extended m) (sym (el ∙ ec)) ∙ none.1))
+pub deck_refused : (m : Model) (t : Task) (listed : List Kept) (cuts lent : List Ineq) (refusal : Refusal CutFile) → cuts ≡ map inequality_of listed → lent ≡ cuts
+    → (refusal ≡ Memory) ⊎ ((refusal ≡ TooLarge) × (extended m lent ≡ None)) → t.setting.model ≡ m → listed ≡ listed_cuts t → TextsRefused t refusal
+deck_refused m t listed cuts lent refusal ec el (inl memory) em is = inl memory
+deck_refused m t listed cuts lent refusal ec el (inr none) em is =
+    inr (none.0, inl (ap (λ y. extended y (map inequality_of (listed_cuts t))) em ∙ ap (λ z. extended m (map inequality_of z)) (sym is) ∙ ap (extended m) (sym (el ∙ ec)) ∙ none.1))
 
-pub texts_too_large : (m : Model) (x : Point) (listed : List Kept) (deck proofs : Vec ℕ Global) → IsExtendedText m (map inequality_of listed) deck
-    → proofs.items ≡ proof_text (map proof_of listed) → (is_too_long deck.items || is_too_long proofs.items) ≡ true → listed ≡ listed_cuts m x → TextsRefused m x TooLarge
-texts_too_large m x listed deck proofs t ep large is =
-    inr (refl, inr (t.n, extended_is m x listed deck is t, size_is m t.n x listed deck.items proofs.items true is t.text_is ep large))
+pub texts_too_large : (m n : Model) (t : Task) (listed : List Kept) (proofs : List ℕ) → extended m (map inequality_of listed) ≡ Some n
+    → proofs ≡ proof_text (map proof_of listed) → (is_too_long (deck_text n) || is_too_long proofs) ≡ true → t.setting.model ≡ m → listed ≡ listed_cuts t → TextsRefused t TooLarge
+texts_too_large m n t listed proofs e ep large em is =
+    inr (refl, inr (n, extended_is m n t listed em is e, size_is n t listed proofs true is ep large))
 
-pub report_made : (m : Model) (x : Point) (kept lent : List Kept) (wide keys : List Key) (text : List ℕ) → kept ≡ listed_cuts m x → wide ≡ wides (answers m x)
-    → lent ≡ kept → keys ≡ wide → text ≡ report_text (cut_names m (length lent)) lent keys → text ≡ report_of m x
-report_made m x kept lent wide keys text ek ew el eq e =
-    e ∙ ap (λ l. report_text (cut_names m (length l)) l keys) (el ∙ ek)
-    ∙ ap (λ k. report_text (cut_names m (length (listed_cuts m x))) (listed_cuts m x) k) (eq ∙ ew)
+pub report_made : (t : Task) (kept lent : List Kept) (wide keys : List Key) (text : List ℕ) → kept ≡ listed_cuts t → wide ≡ wide_keys t
+    → lent ≡ kept → keys ≡ wide → text ≡ report_text (cut_names t.setting.model (length lent)) lent keys → text ≡ report_of t
+report_made t kept lent wide keys text ek ew el eq e =
+    e ∙ ap (λ l. report_text (cut_names t.setting.model (length l)) l keys) (el ∙ ek)
+    ∙ ap (λ k. report_text (cut_names t.setting.model (length (listed_cuts t))) (listed_cuts t) k) (eq ∙ ew)
 
-pub texts_made : (m : Model) (x : Point) (listed : List Kept) (deck proofs report : Vec ℕ Global) → listed ≡ listed_cuts m x → IsExtendedText m (map inequality_of listed) deck
-    → proofs.items ≡ proof_text (map proof_of listed) → (is_too_long deck.items || is_too_long proofs.items) ≡ false → report.items ≡ report_of m x
-    → AreTexts m x (record { deck = deck; proofs = proofs; report = report })
-texts_made m x listed deck proofs report is t ep small er = record {
-  n = t.n;
-  extended_is = extended_is m x listed deck is t;
-  small = size_is m t.n x listed deck.items proofs.items false is t.text_is ep small;
-  deck = t.text_is;
+pub texts_made : (t : Task) (n : Model) (listed : List Kept) (proofs report : Vec ℕ Global) → listed ≡ listed_cuts t → extended t.setting.model (map inequality_of listed) ≡ Some n
+    → IsValid n → proofs.items ≡ proof_text (map proof_of listed) → (is_too_long (deck_text n) || is_too_long proofs.items) ≡ false → report.items ≡ report_of t
+    → AreTexts t (record { deck = n; proofs = proofs; report = report })
+texts_made t n listed proofs report is e valid ep small er = record {
+  extended_is = extended_is t.setting.model n t listed refl is e;
+  valid = valid;
+  small = size_is n t listed proofs.items false is ep small;
   proofs = ep ∙ ap (λ l. proof_text (map proof_of l)) is;
   report = er;
 }

@@ -2,7 +2,7 @@
 use Rattle.std.proofs.Common.{◌≡◌, ◌≢◌, ◌<◌, ◌≤◌, ◌⊎◌, ◌&&◌, ◌∙◌, ℕ, List, [], ◌∷◌, Some, None, Option, true, false, refl, sym, subst, not, Bool, bytes_eq, true≢false, ap, map, length, get_or, String, string_bytes, arith, if◌then◌else◌}
 use Rattle.std.specs.declared.alloc.Global.{Global}
 use Rattle.std.proofs.lemmas.Slice.Eq.{bytes_eq-Decides}
-use Rattle.cgl_app.specs.Words.{CutWords, ShowWords, CutCommand, differ, asks_cut, asks_show, are_files, cut_of, show_of, command_by, command_of}
+use Rattle.cgl_app.specs.Words.{AtPoint, CutWords, ShowWords, CutCommand, differ, asks_cut, asks_show, are_files, cut_of, show_of, command_by, command_of}
 
 pub eight : (ws : List (String Global)) (a b c d e f g h : String Global) → 8 ≤ length ws → length ws < 9
     → a ≡ get_or ws 0 a → b ≡ get_or ws 1 b → c ≡ get_or ws 2 c → d ≡ get_or ws 3 d → e ≡ get_or ws 4 e → f ≡ get_or ws 5 f → g ≡ get_or ws 6 g → h ≡ get_or ws 7 h
@@ -15,29 +15,32 @@ unfolding cut_of
 not_eight (u ∷ v ∷ w ∷ x ∷ y ∷ z ∷ s ∷ t ∷ []) far = grind arith
 not_eight _ far = refl
 
-pub asked : (a e g h : List ℕ) (c : CutWords) → true ≡ asks_cut a e g h → true ≡ are_files c
-    → Some c ≡ cut_of (a ∷ c.model ∷ c.out ∷ c.proof ∷ e ∷ c.point ∷ g ∷ h ∷ [])
+-- the words of these files
+abbrev pub files : List ℕ → List ℕ → List ℕ → List ℕ → CutWords
+files a b c d = record { model = a; out = b; proof = c; start = AtPoint d }
+
+pub asked : (a m o p e x g h : List ℕ) → true ≡ asks_cut a e g h → true ≡ are_files m o p x
+    → Some (files m o p x) ≡ cut_of (a ∷ m ∷ o ∷ p ∷ e ∷ x ∷ g ∷ h ∷ [])
 unfolding cut_of
-asked a e g h c asks files = ap (λ t. if t then Some c else None) (files ∙ ap (λ t. t && are_files c) asks)
+asked a m o p e x g h asks named = ap (λ t. if t then Some (files m o p x) else None) (named ∙ ap (λ t. t && are_files m o p x) asks)
 
-pub no_files : (a e g h : List ℕ) (c : CutWords) → true ≡ asks_cut a e g h → false ≡ are_files c
-    → ◌≡◌ {A = Option CutWords} None (cut_of (a ∷ c.model ∷ c.out ∷ c.proof ∷ e ∷ c.point ∷ g ∷ h ∷ []))
+pub no_files : (a m o p e x g h : List ℕ) → true ≡ asks_cut a e g h → false ≡ are_files m o p x
+    → ◌≡◌ {A = Option CutWords} None (cut_of (a ∷ m ∷ o ∷ p ∷ e ∷ x ∷ g ∷ h ∷ []))
 unfolding cut_of
-no_files a e g h c asks files = ap (λ t. if t then Some c else None) (files ∙ ap (λ t. t && are_files c) asks)
+no_files a m o p e x g h asks named = ap (λ t. if t then Some (files m o p x) else None) (named ∙ ap (λ t. t && are_files m o p x) asks)
 
-pub not_asked : (a e g h : List ℕ) (c : CutWords) → false ≡ asks_cut a e g h
-    → ◌≡◌ {A = Option CutWords} None (cut_of (a ∷ c.model ∷ c.out ∷ c.proof ∷ e ∷ c.point ∷ g ∷ h ∷ []))
+pub not_asked : (a m o p e x g h : List ℕ) → false ≡ asks_cut a e g h
+    → ◌≡◌ {A = Option CutWords} None (cut_of (a ∷ m ∷ o ∷ p ∷ e ∷ x ∷ g ∷ h ∷ []))
 unfolding cut_of
-not_asked a e g h c asks = ap (λ t. if t && are_files c then Some c else None) asks
+not_asked a m o p e x g h asks = ap (λ t. if t && are_files m o p x then Some (files m o p x) else None) asks
 
-files : List ℕ → List ℕ → List ℕ → List ℕ → CutWords
-files a b c d = record { model = a; out = b; proof = c; point = d }
-
-pub same_words : (a b c d a2 b2 c2 d2 : List ℕ) → a ≡ a2 → b ≡ b2 → c ≡ c2 → d ≡ d2
-    → ◌≡◌ {A = CutWords} (record { model = a; out = b; proof = c; point = d }) (record { model = a2; out = b2; proof = c2; point = d2 })
-unfolding files
+pub same_words : (a b c d a2 b2 c2 d2 : List ℕ) → a ≡ a2 → b ≡ b2 → c ≡ c2 → d ≡ d2 → files a b c d ≡ files a2 b2 c2 d2
 same_words a b c d a2 b2 c2 d2 ea eb ec ed =
     ap (λ x. files x b c d) ea ∙ ap (λ x. files a2 x c d) eb ∙ ap (λ x. files a2 b2 x d) ec ∙ ap (λ x. files a2 b2 c2 x) ed
+
+pub same_names : (a b c d a2 b2 c2 d2 : List ℕ) → a ≡ a2 → b ≡ b2 → c ≡ c2 → d ≡ d2 → are_files a b c d ≡ are_files a2 b2 c2 d2
+same_names a b c d a2 b2 c2 d2 ea eb ec ed =
+    ap (λ x. are_files x b c d) ea ∙ ap (λ x. are_files a2 x c d) eb ∙ ap (λ x. are_files a2 b2 x d) ec ∙ ap (λ x. are_files a2 b2 c2 x) ed
 
 pub by_words : (o : Option CutWords) (p : Option ShowWords) (ws : List (List ℕ)) → o ≡ cut_of ws → p ≡ show_of ws → command_by o p ≡ command_of ws
 unfolding command_of
@@ -97,9 +100,9 @@ same_bytes a = (bytes_eq-Decides a a).1 refl
 apart_of : (a b : List ℕ) → differ a b ≡ true → a ≢ b
 apart_of a b e same = let P : List ℕ → Type 0 = λ x. differ a x ≡ true in true≢false (sym (subst P (sym same) e) ∙ ap not (same_bytes a))
 
-files_differ : (c : CutWords) → are_files c ≡ true → c.out ≢ c.proof
+files_differ : (m o p x : List ℕ) → are_files m o p x ≡ true → o ≢ p
 unfolding are_files
-files_differ c e = apart_of c.out c.proof (and_right _ _ (and_left _ _ (and_left _ _ e)))
+files_differ m o p x e = apart_of o p (and_right _ _ (and_left _ _ (and_left _ _ e)))
 
 chosen : (t : Bool) (d c : CutWords) → (if t then Some d else None) ≡ Some c → t ≡ true
 chosen true d c e = refl
@@ -114,16 +117,15 @@ command_is None None c e = cc
 command_is None (Some s) c e = cc
 command_is (Some d) p c e = cc
 
-cut_files : (words : List (List ℕ)) (c : CutWords) → cut_of words ≡ Some c → are_files c ≡ true
+cut_files : (words : List (List ℕ)) (c : CutWords) → cut_of words ≡ Some c → c.out ≢ c.proof
 unfolding cut_of
 cut_files (a ∷ m ∷ o ∷ p ∷ at ∷ x ∷ g ∷ r ∷ []) c e =
-    let d : CutWords = record { model = m; out = o; proof = p; point = x } in
-    let t = asks_cut a at g r && are_files d in
-    let P : CutWords → Type 0 = λ y. are_files y ≡ true in
-    subst P (chosen_is t d c e) (and_right _ _ (chosen t d c e))
+    let t = asks_cut a at g r && are_files m o p x in
+    let P : CutWords → Type 0 = λ y. y.out ≢ y.proof in
+    subst P (chosen_is t (files m o p x) c e) (files_differ m o p x (and_right _ _ (chosen t (files m o p x) c e)))
 cut_files _ c e = cc
 
 -- OUT and PROOF are two files
 pub files_apart : (words : List (List ℕ)) (c : CutWords) → command_of words ≡ Some (CutCommand c) → c.out ≢ c.proof
 unfolding command_of
-files_apart words c e = files_differ c (cut_files words c (command_is (cut_of words) (show_of words) c e))
+files_apart words c e = cut_files words c (command_is (cut_of words) (show_of words) c e)

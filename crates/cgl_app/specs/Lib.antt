@@ -1,11 +1,12 @@
-pub mod View
 pub mod Words
 pub mod Meant
+pub mod Below
 pub mod Report
 pub mod CutOf
-pub mod Script
+pub mod CutTask
 pub mod Commands
-pub mod Lines
+pub mod Refusals
+pub mod KnownLines
 pub mod Ran
 pub mod Steps
 pub mod CutAnswers

@@ -3,8 +3,8 @@ use Rattle.std.specs.Prelude.{ℕ, List, [], ◌∷◌, ◌++◌, codes, decimal
 use Rattle.cgl_num.specs.Fraction.{fraction_text}
 use Rattle.cgl_num.specs.NumberText.{Word}
 use Rattle.cgl_model.specs.declared.mip.Model.{Model}
-use Rattle.cgl_cuts.specs.declared.pool.pool.Kept.{Kept}
-use Rattle.cgl_cuts.specs.Listed.{Key}
+use Rattle.cgl_pool.specs.declared.kept.Kept.{Kept}
+use Rattle.cgl_pool.specs.Listed.{Key}
 
 -- the generators by their numbers
 abbrev pub generator_words : List Word

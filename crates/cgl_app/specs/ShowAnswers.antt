@@ -2,20 +2,20 @@
 use Rattle.std.specs.Prelude.{◌≡◌, ◌⊎◌, ℕ, true, false, take, Option, Some, None, IsSome}
 use Rattle.cgl_model.specs.declared.mip.Model.{Model as Mip}
 use Rattle.cgl_deck.specs.DeckText.{deck_text}
-use Rattle.cgl_mps.specs.Decode.{decode, Deck}
-use Rattle.cgl_mps.specs.DeckResult.{deck_result}
-use Rattle.cgl_outside.specs.Shelf.{Held, file_of, with_file, Lacks, Rose}
+use Rattle.cgl_decode.specs.Decode.{decode, Deck}
+use Rattle.cgl_decode.specs.DeckResult.{deck_result}
+use Rattle.cgl_outside.specs.Counted.{Calm, NoneFailed, OnlyPutFailed, OnlyWriteFailed}
+use Rattle.cgl_outside.specs.Means.{Holds, IsFaulty, IsRead}
+use Rattle.cgl_outside.specs.Shelf.{Held, file_of, with_file, Lacks, PartWritten, Rose}
 use Rattle.cgl_outside.specs.Sink.{with_put}
-use Rattle.cgl_app.specs.declared.refusal.File.{File}
-use Rattle.cgl_app.specs.declared.refusal.File.TheVariants.{Model, Out, StandardOutput}
+use Rattle.cgl_outside.specs.View.{View}
+use Rattle.cgl_app.specs.declared.refusal.ShowFile.{ShowFile}
+use Rattle.cgl_app.specs.declared.refusal.ShowFile.TheVariants.{Model, Out}
 use Rattle.cgl_app.specs.declared.refusal.Refusal.{Refusal}
-use Rattle.cgl_app.specs.declared.refusal.Refusal.TheVariants.{Usage, ReadFault, WriteFault, Input, TooLarge, Memory}
+use Rattle.cgl_app.specs.declared.refusal.Refusal.TheVariants.{ReadFault, WriteFault, OutputFault, Input, Named, TooLarge, Memory}
 use Rattle.cgl_app.specs.CutOf.{is_too_long}
 use Rattle.cgl_app.specs.Report.{counts_text}
-use Rattle.cgl_app.specs.Steps.{IsRead}
-use Rattle.cgl_app.specs.View.{View}
 use Rattle.cgl_app.specs.Words.{ShowWords}
-use Rattle.cgl_app.specs.CutAnswers.{Holds, IsFaulty, PartWritten, Calm, NoneFailed, OnlyWriteFailed, OnlyPutFailed}
 
 -- the model that was read, whose text is to be written
 pub record IsToShow (s : ShowWords) (held : Held) (m : Mip) : Type 0 where
@@ -33,24 +33,31 @@ pub record Shown (s : ShowWords) (before after : View) : Type 0 where
   pub report : after.told ≡ with_put before.told (counts_text m)
 
 -- status 3; nothing but the count of reads that failed has changed, nor that where there is no such file
-pub record ShowReadStop (s : ShowWords) (before after : View) (file : File) : Type 0 where
-  pub file_is : file ≡ Model
+pub record ShowReadStop (s : ShowWords) (before after : View) : Type 0 where
   pub cause : Rose before.reads after.reads ⊎ Lacks before.held s.model
   pub excused : Lacks before.held s.model → after ≡ before
   pub rest : after ≡ record before { reads = after.reads }
 
--- status 4, with the file that is named, or the output; no other call failed
-pub data ShowWriteStop (s : ShowWords) (before after : View) : File → Type 0 where
-  ShowAtOut : (m : Mip) → IsToShow s before.held m → OnlyWriteFailed before after
-      → PartWritten before.held after.held s.out (deck_text m) → after.told ≡ before.told → ShowWriteStop s before after Out
-  ShowAtOutput : (m : Mip) → IsToShow s before.held m → OnlyPutFailed before after
-      → after.held ≡ with_file before.held s.out (deck_text m) → (kept : ℕ) → after.told ≡ with_put before.told (take kept (counts_text m))
-      → ShowWriteStop s before after StandardOutput
+-- status 4, with the file; no other call failed
+pub record ShowWriteStop (s : ShowWords) (before after : View) : Type 0 where
+  pub m : Mip
+  pub written : IsToShow s before.held m
+  pub failed : OnlyWriteFailed before after
+  pub part : PartWritten before.held after.held s.out (deck_text m)
+  pub told : after.told ≡ before.told
+
+-- status 4, with the output; no other call failed, and the file is whole
+pub record ShowOutputStop (s : ShowWords) (before after : View) : Type 0 where
+  pub m : Mip
+  pub written : IsToShow s before.held m
+  pub failed : OnlyPutFailed before after
+  pub files : after.held ≡ with_file before.held s.out (deck_text m)
+  pub kept : ℕ
+  pub got : after.told ≡ with_put before.told (take kept (counts_text m))
 
 -- status 5, with the line and kind of the deck's first fault; nothing has changed
-pub record ShowInputStop (s : ShowWords) (before after : View) (file : File) (line kind : ℕ) : Type 0 where
+pub record ShowInputStop (s : ShowWords) (before after : View) (line kind : ℕ) : Type 0 where
   pub rest : after ≡ before
-  pub file_is : file ≡ Model
   pub faulty : IsFaulty before.held s.model deck_result line kind
 
 -- status 6: the text has more than 2^30 bytes; nothing has changed
@@ -61,12 +68,16 @@ pub record ShowSizeStop (s : ShowWords) (before after : View) : Type 0 where
   pub cause : is_too_long (deck_text m) ≡ true
 
 -- the answers of `show`
-abbrev pub ShowAnswer : ShowWords → View → View → Option Refusal → Type 0
+abbrev pub ShowAnswer : ShowWords → View → View → Option (Refusal ShowFile) → Type 0
 ShowAnswer s before after None = Shown s before after
-ShowAnswer s before after (Some Usage) = ⊥
-ShowAnswer s before after (Some (ReadFault file)) = ShowReadStop s before after file
-ShowAnswer s before after (Some (WriteFault file)) = ShowWriteStop s before after file
-ShowAnswer s before after (Some (Input file line kind)) = ShowInputStop s before after file line kind
+ShowAnswer s before after (Some (ReadFault Model)) = ShowReadStop s before after
+ShowAnswer s before after (Some (ReadFault Out)) = ⊥
+ShowAnswer s before after (Some (WriteFault Model)) = ⊥
+ShowAnswer s before after (Some (WriteFault Out)) = ShowWriteStop s before after
+ShowAnswer s before after (Some OutputFault) = ShowOutputStop s before after
+ShowAnswer s before after (Some (Input Model line kind)) = ShowInputStop s before after line kind
+ShowAnswer s before after (Some (Input Out line kind)) = ⊥
+ShowAnswer s before after (Some (Named cause model)) = ⊥
 ShowAnswer s before after (Some TooLarge) = ShowSizeStop s before after
 ShowAnswer s before after (Some Memory) = after ≡ before
 

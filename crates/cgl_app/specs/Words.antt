@@ -1,12 +1,19 @@
 -- The words of the command line.
 use Rattle.std.specs.Prelude.{ℕ, List, [], ◌∷◌, Option, Some, None, Bool, false, not, ◌&&◌, bytes_eq, codes, nat_eq, if◌then◌else◌}
 
+-- the file that says where the columns stand
+pub data Start : Type 0 where
+  AtPoint : List ℕ → Start
+
+abbrev pub start_name : Start → List ℕ
+start_name (AtPoint name) = name
+
 -- the files of a cut
 pub record CutWords : Type 0 where
   pub model : List ℕ
   pub out : List ℕ
   pub proof : List ℕ
-  pub point : List ℕ
+  pub start : Start
 
 -- a file's name: not empty, and no `-` in front
 abbrev pub is_name : List ℕ → Bool
@@ -16,10 +23,11 @@ is_name (first ∷ rest) = not (nat_eq first 45)
 abbrev pub differ : List ℕ → List ℕ → Bool
 differ a b = not (bytes_eq a b)
 
-unfoldable pub are_files : CutWords → Bool
-are_files c = is_name c.model && is_name c.out && is_name c.proof && is_name c.point
-    && differ c.model c.out && differ c.model c.proof && differ c.model c.point
-    && differ c.out c.proof && differ c.out c.point && differ c.proof c.point
+-- four names of files, no two of them the same
+unfoldable pub are_files : List ℕ → List ℕ → List ℕ → List ℕ → Bool
+are_files model out proof start = is_name model && is_name out && is_name proof && is_name start
+    && differ model out && differ model proof && differ model start
+    && differ out proof && differ out start && differ proof start
 
 unfoldable pub asks_cut : List ℕ → List ℕ → List ℕ → List ℕ → Bool
 asks_cut command point gen generator =
@@ -28,8 +36,8 @@ asks_cut command point gen generator =
 -- `cut MODEL OUT PROOF --point FILE --gen round`
 unfoldable pub cut_of : List (List ℕ) → Option CutWords
 cut_of (command ∷ model ∷ out ∷ proof ∷ at ∷ point ∷ gen ∷ generator ∷ []) =
-    let c : CutWords = record { model = model; out = out; proof = proof; point = point } in
-    if asks_cut command at gen generator && are_files c then Some c else None
+    if asks_cut command at gen generator && are_files model out proof point
+    then Some (record { model = model; out = out; proof = proof; start = AtPoint point }) else None
 cut_of _ = None
 
 -- the files of a show

@@ -1,89 +1,83 @@
-ghost use Rattle.std.specs.Prelude.{◌≡◌, ◌⊎◌, ◌||◌, ◌++◌, ◌∷◌, [], false, None, IfOk, IfErr, OnOk, length, map, zip};
+ghost use Rattle.std.specs.Prelude.{◌≡◌, ◌⊎◌, ◌||◌, pos, ◌<ℤ◌, false, None, Some, IfOk, IfErr, length, map, zip};
 ghost use Rattle.std.specs.Result.{result_err};
-ghost use Rattle.cgl_model.specs.declared.mip.Model.{Model as Mip};
-ghost use Rattle.cgl_model.specs.Point.{Point as Numbers};
-ghost use Rattle.cgl_model.specs.Inequality.{AreColumnsBelow};
-ghost use Rattle.cgl_model.specs.IntegerForm.{forms_of};
-ghost use Rattle.cgl_model.specs.Valid.{IsSized};
-ghost use Rattle.cgl_cuts.specs.RoundMember.{round_member};
+ghost use Rattle.cgl_model.specs.HasDecimals.{HasDecimals};
+ghost use Rattle.cgl_model.specs.Valid.{IsValid};
 ghost use Rattle.cgl_deck.specs.CutNames.{cut_names};
+ghost use Rattle.cgl_deck.specs.DeckText.{deck_text};
 ghost use Rattle.cgl_deck.specs.Extended.{extended};
-ghost use Rattle.cgl_cuts.specs.Listed.{HaveDistinctKeys, wides};
-ghost use Rattle.cgl_cuts.specs.ProofText.{proof_text};
+ghost use Rattle.cgl_gen.specs.Setting.{IsSetting};
+ghost use Rattle.cgl_outside.specs.Script.{Came};
+ghost use Rattle.cgl_outside.specs.View.{view};
+ghost use Rattle.cgl_model.specs.IntegerForm.{forms_of};
+ghost use Rattle.cgl_pool.specs.Does.{AreRising};
+ghost use Rattle.cgl_pool.specs.Generators.{any};
+ghost use Rattle.cgl_pool.specs.Task.{Task as Meant, listed_cuts, wide_keys};
+ghost use Rattle.cgl_prooftext.specs.ProofText.{proof_text};
+ghost use Rattle.cgl_app.specs.Commands.{cut_script, cut_starts, cut_works};
+ghost use Rattle.cgl_app.specs.CutOf.{inequality_of, is_too_long, proof_of};
+ghost use Rattle.cgl_app.specs.CutSteps.{AreTexts, TextsRefused, derivation_of};
+ghost use Rattle.cgl_app.specs.CutTask.{setting_at, task_at};
+ghost use Rattle.cgl_app.specs.Meant.{cut_file, words_of};
+ghost use Rattle.cgl_app.specs.Ran.{Ran};
+ghost use Rattle.cgl_app.specs.Refusals.{name_in};
 ghost use Rattle.cgl_app.specs.Report.{report_text};
-ghost use Rattle.cgl_app.specs.View.{view};
-ghost use Rattle.cgl_app.specs.Script.{Came};
-ghost use Rattle.cgl_where.specs.PointRead.{point_result};
-ghost use Rattle.cgl_app.specs.Commands.{cut_script, cut_works, reads_file};
-ghost use Rattle.cgl_app.specs.CutOf.{answers, inequality_of, is_too_long, listed_cuts, proof_of};
-ghost use Rattle.cgl_app.specs.CutSteps.{derivation_of, AreTexts, IsExtendedText, TextsRefused};
-ghost use Rattle.cgl_app.specs.Meant.{words_of};
 
 use crate::report::report_text;
-use crate::steps::{put_report, read_model, read_point, write_file};
-use crate::texts::{CutTexts, is_too_long};
+use crate::say::say_why;
+use crate::steps::{put_report, read_model, read_point, write_file, write_model};
+use crate::texts::{CutTexts, is_too_long, is_too_long_deck};
 use crate::words::Cut;
-use crate::{File, Refusal};
-use cgl_cuts::derive::{Candidate, Derivation};
-use cgl_cuts::generators::Rounder;
-use cgl_cuts::pool::{Gathered, Kept, Stamped, gather};
-use cgl_cuts::prooftext::proof_text;
-use cgl_deck::{ExtendError, cut_names, deck_text, with_cuts};
-use cgl_model::{Forms, Ineq, Model, Point, Side};
+use crate::{CutFile, Refusal};
+use cgl_deck::{ExtendError, cut_names, extension_laws, with_cuts};
+use cgl_derive::{Candidate, Derivation};
+use cgl_gen::{Rounder, Site};
+use cgl_model::{Forms, Ineq, Model, Point};
 use cgl_num::Memory;
 use cgl_outside::{Shelf, Sink};
+use cgl_pool::{AnyGen, Gathered, Kept, Task, generate};
+use cgl_prooftext::proof_text;
+use cgl_where::known_points;
 use std::alloc::Global;
 
-/// Puts what simple rounding says of a side behind what it said of the sides before.
-fn add_answer(
+/// The cuts that these generators list at the site, and the items whose answer was too wide.
+fn generated<'x>(
     alloc: Global,
-    model: &Model,
-    point: &Point,
-    item: u64,
-    side: &Side,
-    found: &mut Vec<Stamped>,
-) -> Result<(), Memory>
-    requires { AreColumnsBelow (length point.now.p) side.now.ineq.terms }
-    ensures { OnOk result (found.new.items ≡ found.old.items ++ record { key = (0, item); answer = round_member model.now point.now side.now } ∷ []) }
+    site: &'x Site<'x>,
+    generators: &'x [AnyGen],
+    order: &'x [u32],
+) -> Result<Gathered, Memory>
+    requires { AreRising any generators.now }
+    ensures listed { IfOk result (λ gathered. gathered.listed ≡ listed_cuts (record { setting = site.now; generators = generators.now; order = order.now; stop = None })) }
+    ensures wide { IfOk result (λ gathered. gathered.wides ≡ wide_keys (record { setting = site.now; generators = generators.now; order = order.now; stop = None })) }
 {
-    let answer = Rounder::give(alloc, model, point, side)?;
-    let stamped = Stamped {
-        key: (0, item),
-        answer,
-    };
-    let Ok(()) = found.push(stamped) else {
-        return Err(Memory);
-    };
-    Ok(())
+    let task = Task::new(site, generators, order, None);
+    generate(alloc, &task)
 }
 
-/// What simple rounding says of each of the model's sides.
-fn side_answers(
+/// The same for the generators that are chosen, at a point of the model with these forms.
+fn gathered_with<'x>(
     alloc: Global,
-    model: &Model,
-    point: &Point,
-    sides: &[Side],
-) -> Result<Vec<Stamped>, Memory>
-    requires sides { sides.now ≡ (forms_of model.now).sides }
-    requires point { length point.now.p ≡ length model.now.cols }
-    ensures { IfOk result (λ found. found.items ≡ answers model.now point.now) }
+    model: &'x Model,
+    forms: &'x Forms,
+    point: &'x Point,
+) -> Result<Gathered, Memory>
+    requires forms { forms.now ≡ forms_of model.now }
+    requires setting { IsSetting (setting_at model.now point.now) }
+    ensures listed { IfOk result (λ gathered. gathered.listed ≡ listed_cuts (task_at model.now point.now)) }
+    ensures wide { IfOk result (λ gathered. gathered.wides ≡ wide_keys (task_at model.now point.now)) }
 {
-    let mut found = Vec::new(alloc);
-    'sides: for (item, side) in sides.iter().enumerate() {
-        add_answer(alloc, model, point, item as u64, side, &mut found)?;
-    }
-    Ok(found)
+    let site = Site::new(model, forms, point, None);
+    generated(alloc, &site, &[AnyGen::Rounder(Rounder)], &[0])
 }
 
-/// What simple rounding says of each side.
-fn answers(alloc: Global, model: &Model, point: &Point) -> Result<Vec<Stamped>, Memory>
-    requires sized { IsSized model.now }
-    requires point { length point.now.p ≡ length model.now.cols }
-    ensures answers { IfOk result (λ found. found.items ≡ answers model.now point.now) }
-    ensures distinct { IfOk result (λ found. HaveDistinctKeys found.items) }
+/// The same at a point of the model.
+fn gathered(alloc: Global, model: &Model, point: &Point) -> Result<Gathered, Memory>
+    requires { IsSetting (setting_at model.now point.now) }
+    ensures listed { IfOk result (λ gathered. gathered.listed ≡ listed_cuts (task_at model.now point.now)) }
+    ensures wide { IfOk result (λ gathered. gathered.wides ≡ wide_keys (task_at model.now point.now)) }
 {
     let forms = Forms::build(alloc, model)?;
-    side_answers(alloc, model, point, forms.sides())
+    gathered_with(alloc, model, &forms, point)
 }
 
 /// The listed cuts as inequalities and their derivations.
@@ -121,10 +115,12 @@ fn pairs(
     Ok(pairs)
 }
 
-fn are_too_long(deck: &[u8], proofs: &[u8]) -> bool
-    ensures { result ≡ (is_too_long deck.now || is_too_long proofs.now) }
+/// The text of the derivations.
+fn proofs(alloc: Global, cuts: Vec<Ineq>, derivations: Vec<Derivation>) -> Result<Vec<u8>, Memory>
+    ensures { IfOk result (λ text. text.items ≡ proof_text (zip cuts.items derivations.items)) }
 {
-    is_too_long(deck) || is_too_long(proofs)
+    let pairs = pairs(alloc, cuts, derivations)?;
+    proof_text(alloc, &pairs)
 }
 
 /// The report on a model's listed cuts.
@@ -143,63 +139,47 @@ fn report(
     report_text(alloc, names.as_slice(), listed, wides)
 }
 
-/// The text of the model with cuts as further rows.
-fn extended_text(alloc: Global, model: &Model, cuts: &[Ineq]) -> Result<Vec<u8>, Refusal>
-    requires { IsSized model.now }
-    ensures text { IfOk result (IsExtendedText model.now cuts.now) }
+/// The model with cuts as further rows.
+fn extended(alloc: Global, model: &Model, cuts: &[Ineq]) -> Result<Model, Refusal<CutFile>>
+    requires { IsValid model.now }
+    ensures model { IfOk result (λ n. extended model.now cuts.now ≡ Some n) }
+    ensures valid { IfOk result IsValid }
     ensures refused { IfErr result (λ e. (e ≡ Refusal.Memory) ⊎ ((e ≡ Refusal.TooLarge) × (extended model.now cuts.now ≡ None))) }
 {
     if u32::try_from(cuts.len()).is_err() {
         return Err(Refusal::Memory);
     }
-    let extension = match with_cuts(alloc, model, cuts) {
-        Ok(extension) => extension,
-        Err(ExtendError::Memory) => return Err(Refusal::Memory),
-        Err(ExtendError::Unknown { cut: _cut }) => return Err(Refusal::TooLarge),
-        Err(ExtendError::NotDec { cut: _cut }) => return Err(Refusal::TooLarge),
-        Err(ExtendError::TooMany) => return Err(Refusal::TooLarge),
-    };
-    match deck_text(alloc, &extension) {
-        Ok(text) => Ok(text),
-        Err(_) => Err(Refusal::Memory),
+    extension_laws();
+    match with_cuts(alloc, model, cuts) {
+        Ok(extension) => Ok(extension),
+        Err(ExtendError::Memory) => Err(Refusal::Memory),
+        Err(_) => Err(Refusal::TooLarge),
     }
 }
 
-/// The text of the derivations.
-fn proofs(alloc: Global, cuts: Vec<Ineq>, derivations: Vec<Derivation>) -> Result<Vec<u8>, Memory>
-    ensures { IfOk result (λ text. text.items ≡ proof_text (zip cuts.items derivations.items)) }
+fn are_too_long(deck: &Model, proofs: &[u8]) -> bool
+    ensures { result ≡ (is_too_long (deck_text deck.now) || is_too_long proofs.now) }
 {
-    let pairs = pairs(alloc, cuts, derivations)?;
-    proof_text(alloc, &pairs)
+    is_too_long_deck(deck) || is_too_long(proofs)
 }
 
-/// The cuts that are listed, and the sides whose answer was too wide.
-fn gathered(alloc: Global, model: &Model, point: &Point) -> Result<Gathered, Memory>
-    requires sized { IsSized model.now }
-    requires point { length point.now.p ≡ length model.now.cols }
-    ensures listed { IfOk result (λ gathered. gathered.listed ≡ listed_cuts model.now point.now) }
-    ensures wide { IfOk result (λ gathered. gathered.wides ≡ wides (answers model.now point.now)) }
-{
-    let answers = answers(alloc, model, point)?;
-    gather(alloc, answers)
-}
-
-/// The texts of the deck with these cuts and of their derivations.
+/// The model with these cuts, and the text of their derivations.
 fn deck_and_proofs(
     alloc: Global,
     model: &Model,
     listed: Vec<Kept>,
-) -> Result<(Vec<u8>, Vec<u8>), Refusal>
-    requires sized { IsSized model.now }
-    ensures deck { IfOk result (λ texts. IsExtendedText model.now (map inequality_of listed.items) texts.0) }
+) -> Result<(Model, Vec<u8>), Refusal<CutFile>>
+    requires { IsValid model.now }
+    ensures deck { IfOk result (λ texts. extended model.now (map inequality_of listed.items) ≡ Some texts.0) }
+    ensures valid { IfOk result (λ texts. IsValid texts.0) }
     ensures proofs { IfOk result (λ texts. texts.1.items ≡ proof_text (map proof_of listed.items)) }
-    ensures small { IfOk result (λ texts. (is_too_long texts.0.items || is_too_long texts.1.items) ≡ false) }
-    ensures refused { (x : Numbers) → listed.items ≡ listed_cuts model.now x → IfErr result (TextsRefused model.now x) }
+    ensures small { IfOk result (λ texts. (is_too_long (deck_text texts.0) || is_too_long texts.1.items) ≡ false) }
+    ensures refused { (t : Meant) → t.setting.model ≡ model.now → listed.items ≡ listed_cuts t → IfErr result (TextsRefused t) }
 {
     let Ok((cuts, derivations)) = parts(alloc, listed) else {
         return Err(Refusal::Memory);
     };
-    let deck = extended_text(alloc, model, &cuts)?;
+    let deck = extended(alloc, model, &cuts)?;
     let Ok(proofs) = proofs(alloc, cuts, derivations) else {
         return Err(Refusal::Memory);
     };
@@ -209,12 +189,12 @@ fn deck_and_proofs(
     Ok((deck, proofs))
 }
 
-/// All texts that a cut writes.
-fn texts(alloc: Global, model: &Model, point: &Point) -> Result<CutTexts, Refusal>
-    requires sized { IsSized model.now }
-    requires point { length point.now.p ≡ length model.now.cols }
-    ensures texts { IfOk result (AreTexts model.now point.now) }
-    ensures refused { IfErr result (TextsRefused model.now point.now) }
+/// All that a cut writes.
+fn texts(alloc: Global, model: &Model, point: &Point) -> Result<CutTexts, Refusal<CutFile>>
+    requires valid { IsValid model.now }
+    requires setting { IsSetting (setting_at model.now point.now) }
+    ensures texts { IfOk result (AreTexts (task_at model.now point.now)) }
+    ensures refused { IfErr result (TextsRefused (task_at model.now point.now)) }
 {
     let Ok(gathered) = gathered(alloc, model, point) else {
         return Err(Refusal::Memory);
@@ -231,20 +211,22 @@ fn texts(alloc: Global, model: &Model, point: &Point) -> Result<CutTexts, Refusa
     })
 }
 
-/// Writes the texts of a cut.
+/// Writes what a cut makes. All texts but that of the deck, which is written first, are there.
 fn write_texts<S: Shelf, O: Sink>(
+    alloc: Global,
     cut: &Cut<'_>,
     texts: &CutTexts,
     shelf: &mut S,
     out: &mut O,
-) -> Result<(), Refusal>
-    ensures { (m : Mip) (x : Numbers) → AreTexts m x texts.now → Came (cut_works (words_of cut.now) m x)
+) -> Result<(), Refusal<CutFile>>
+    requires { IsValid texts.now.deck }
+    ensures { (t : Meant) → AreTexts t texts.now → Came Refusal.Memory (cut_works (words_of cut.now) t)
         (view (S.held shelf.old) (S.failed_reads shelf.old) (S.failed_writes shelf.old) (O.written out.old) (O.faults out.old))
         (view (S.held shelf.new) (S.failed_reads shelf.new) (S.failed_writes shelf.new) (O.written out.new) (O.faults out.new))
         (result_err result) }
 {
-    write_file(shelf, File::Out, cut.out, &texts.deck)?;
-    write_file(shelf, File::Proof, cut.proof, &texts.proofs)?;
+    write_model(alloc, shelf, cut.out, &texts.deck, CutFile::Out)?;
+    write_file(shelf, cut.proof, &texts.proofs, CutFile::Proof)?;
     put_report(out, &texts.report)
 }
 
@@ -256,48 +238,82 @@ fn deliver<S: Shelf, O: Sink>(
     point: &Point,
     shelf: &mut S,
     out: &mut O,
-) -> Result<(), Refusal>
-    requires sized { IsSized model.now }
-    requires point { length point.now.p ≡ length model.now.cols }
-    ensures { Came (cut_works (words_of cut.now) model.now point.now)
+) -> Result<(), Refusal<CutFile>>
+    requires valid { IsValid model.now }
+    requires setting { IsSetting (setting_at model.now point.now) }
+    ensures { Came Refusal.Memory (cut_works (words_of cut.now) (task_at model.now point.now))
         (view (S.held shelf.old) (S.failed_reads shelf.old) (S.failed_writes shelf.old) (O.written out.old) (O.faults out.old))
         (view (S.held shelf.new) (S.failed_reads shelf.new) (S.failed_writes shelf.new) (O.written out.new) (O.faults out.new))
         (result_err result) }
 {
     let texts = texts(alloc, model, point)?;
-    write_texts(cut, &texts, shelf, out)
+    write_texts(alloc, cut, &texts, shelf, out)
 }
 
-/// Reads the point for the model, and does the rest.
+/// Reads where the columns of the model stand, and does the rest.
 fn with_model<S: Shelf, O: Sink>(
     alloc: Global,
     cut: &Cut<'_>,
-    model: &Model,
+    model: Model,
     shelf: &mut S,
     out: &mut O,
-) -> Result<(), Refusal>
-    requires { IsSized model.now }
-    ensures { Came (reads_file File.Point (words_of cut.now).point (point_result model.now) (λ x. cut_works (words_of cut.now) model.now x))
+) -> Result<(), Refusal<CutFile>>
+    requires valid { IsValid model }
+    requires decimals { HasDecimals model }
+    ensures { Came Refusal.Memory (cut_starts (words_of cut.now) model (words_of cut.now).start)
         (view (S.held shelf.old) (S.failed_reads shelf.old) (S.failed_writes shelf.old) (O.written out.old) (O.faults out.old))
         (view (S.held shelf.new) (S.failed_reads shelf.new) (S.failed_writes shelf.new) (O.written out.new) (O.faults out.new))
         (result_err result) }
 {
-    let point = read_point(alloc, shelf, cut.point, model)?;
-    deliver(alloc, cut, model, &point, shelf, out)
+    let point = read_point(alloc, shelf, cut.start.name(), &model, CutFile::Start)?;
+    known_points();
+    deliver(alloc, cut, &model, &point, shelf, out)
 }
 
 /// The command `cut`.
-pub fn cut<S: Shelf, O: Sink>(
+fn cut<S: Shelf, O: Sink>(
     alloc: Global,
     cut: &Cut<'_>,
     shelf: &mut S,
     out: &mut O,
-) -> Result<(), Refusal>
-    ensures { Came (cut_script (words_of cut.now))
+) -> Result<(), Refusal<CutFile>>
+    ensures { Came Refusal.Memory (cut_script (words_of cut.now))
         (view (S.held shelf.old) (S.failed_reads shelf.old) (S.failed_writes shelf.old) (O.written out.old) (O.faults out.old))
         (view (S.held shelf.new) (S.failed_reads shelf.new) (S.failed_writes shelf.new) (O.written out.new) (O.faults out.new))
         (result_err result) }
 {
-    let model = read_model(alloc, shelf, cut.model)?;
-    with_model(alloc, cut, &model, shelf, out)
+    let model = read_model(alloc, shelf, cut.model, CutFile::Model)?;
+    with_model(alloc, cut, model, shelf, out)
+}
+
+/// The name of the file that the refusal is about, or no name.
+fn name_in<'a>(cut: &Cut<'a>, refusal: &Refusal<CutFile>) -> &'a str
+    ensures { result.now ≡ name_in (cut_file (words_of cut.now)) refusal.now }
+{
+    match refusal.file() {
+        Some(file) => cut.name(file),
+        None => "",
+    }
+}
+
+/// Does the command, tells of it on `err` and gives the exit status.
+pub fn run_cut<S: Shelf, O: Sink, E: Sink>(
+    alloc: Global,
+    words: &Cut<'_>,
+    shelf: &mut S,
+    out: &mut O,
+    err: &mut E,
+) -> u8
+    ensures { Ran (cut_file (words_of words.now)) (cut_script (words_of words.now))
+        (view (S.held shelf.old) (S.failed_reads shelf.old) (S.failed_writes shelf.old) (O.written out.old) (O.faults out.old))
+        (view (S.held shelf.new) (S.failed_reads shelf.new) (S.failed_writes shelf.new) (O.written out.new) (O.faults out.new))
+        (E.written err.old) (E.written err.new) (E.faults err.old) (E.faults err.new) result }
+{
+    match cut(alloc, words, shelf, out) {
+        Ok(()) => 0,
+        Err(refusal) => {
+            say_why(err, &refusal, name_in(words, &refusal));
+            refusal.status()
+        }
+    }
 }

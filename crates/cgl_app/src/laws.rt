@@ -1,21 +1,51 @@
-//! Laws of the cuts that are listed.
+//! Laws of the cuts that are listed, and of the lines that are told.
 
+ghost use Rattle.std.specs.Prelude.{None, Some, ◌≡◌, ◌↔◌};
+ghost use Rattle.cgl_model.specs.declared.mip.Model.{Model};
+ghost use Rattle.cgl_model.specs.Feasible.{IsFeasible, SamePoints};
+ghost use Rattle.cgl_model.specs.Point.{Point};
+ghost use Rattle.cgl_model.specs.Valid.{IsValid};
+ghost use Rattle.cgl_pool.specs.Task.{IsTask, Task};
+ghost use Rattle.cgl_app.specs.Below.{Below};
 ghost use Rattle.cgl_app.specs.CutAnswers.{ExceedsSizes};
 ghost use Rattle.cgl_app.specs.CutMeaning.{AreRight, MeetsListed};
 ghost use Rattle.cgl_app.specs.CutOf.{extension};
-ghost use Rattle.cgl_model.specs.declared.mip.Model.{Model};
-ghost use Rattle.cgl_model.specs.Feasible.{IsFeasible, SamePoints};
-ghost use Rattle.cgl_model.specs.HasDecimals.{HasDecimals};
-ghost use Rattle.cgl_model.specs.Point.{Point};
-ghost use Rattle.cgl_model.specs.Valid.{IsValid};
-ghost use Rattle.std.specs.Prelude.{None, Some, ◌≡◌, ◌↔◌};
+ghost use Rattle.cgl_app.specs.KnownLines.{KnownLines};
 
-/// What the listed cuts of a model at a point are: each is violated by its fraction and proved by its derivation, and
-/// each feasible point meets it. So the model with them as further rows has the same feasible points, and there is no
-/// such model only where it has too many rows or entries.
+use cgl_deck::{extension_laws, round_trip_laws};
+use cgl_decode::laws::deck_results;
+use cgl_derive::{lists, soundness};
+use cgl_outside::shelf_laws;
+use cgl_pool::task_laws;
+use cgl_where::known_points;
+
+/// What the laws of the crates below say.
+pub fn laws_below()
+    ensures { Below }
+{
+    shelf_laws();
+    deck_results();
+    known_points();
+    round_trip_laws();
+    extension_laws();
+    task_laws();
+    lists();
+    soundness();
+}
+
+/// What the listed cuts of a task are: each is violated by its fraction and proved by its derivation, and each feasible
+/// point meets it. So the model with them as further rows has the same feasible points, and there is no such model only
+/// where it has too many rows or entries.
 pub fn cut_laws()
-    ensures right { (m : Model) (x : Point) → HasDecimals m → AreRight m x }
-    ensures met { (m : Model) (x : Point) → HasDecimals m → (y : Point) → IsFeasible m y → MeetsListed m x y }
-    ensures points { (m n : Model) (x : Point) → HasDecimals m → IsValid m → extension m x ≡ Some n → SamePoints m n }
-    ensures sizes { (m : Model) (x : Point) → HasDecimals m → (extension m x ≡ None) ↔ ExceedsSizes m x }
+    ensures right { (t : Task) → IsTask t → AreRight t }
+    ensures met { (t : Task) → IsTask t → (y : Point) → IsFeasible t.setting.model y → MeetsListed t y }
+    ensures points { (t : Task) (n : Model) → IsTask t → IsValid t.setting.model → extension t ≡ Some n → SamePoints t.setting.model n }
+    ensures sizes { (t : Task) → IsTask t → (extension t ≡ None) ↔ ExceedsSizes t }
+{
+    laws_below();
+}
+
+/// The lines that name rows and columns of a model, on a model.
+pub fn known_lines()
+    ensures { KnownLines }
 {}

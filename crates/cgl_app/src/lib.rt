@@ -12,6 +12,6 @@ mod steps;
 mod texts;
 mod words;
 
-pub use laws::cut_laws;
+pub use laws::{cut_laws, known_lines};
 pub use program::run;
-pub use refusal::{File, Refusal};
+pub use refusal::{Cause, CutFile, Refusal, ShowFile, Spot};

@@ -1,49 +1,14 @@
-ghost use Rattle.std.specs.Result.{result_err};
-ghost use Rattle.cgl_app.specs.Script.{Came};
-ghost use Rattle.cgl_app.specs.Commands.{command_script};
-ghost use Rattle.cgl_app.specs.Meant.{meant};
-ghost use Rattle.std.specs.Prelude.{◌≡◌, map, string_bytes, Some};
-ghost use Rattle.cgl_app.specs.View.{view};
-ghost use Rattle.cgl_app.specs.Lines.{status_of};
+ghost use Rattle.std.specs.Prelude.{map, string_bytes};
+ghost use Rattle.cgl_outside.specs.View.{view};
 ghost use Rattle.cgl_app.specs.Answered.{Answered};
 
-use crate::Refusal;
-use crate::say::{say_usage, say_why};
+use crate::cut::run_cut;
+use crate::laws::laws_below;
+use crate::say::say_usage;
+use crate::show::run_show;
 use crate::words::{Command, command_of};
 use cgl_outside::{Shelf, Sink};
 use std::alloc::Global;
-
-/// The exit status that tells the refusal.
-fn status_of(refusal: Refusal) -> u8
-    ensures { result ≡ status_of (Some refusal) }
-{
-    match refusal {
-        Refusal::Usage => 2,
-        Refusal::ReadFault(_) => 3,
-        Refusal::WriteFault(_) => 4,
-        Refusal::Input { .. } => 5,
-        Refusal::TooLarge => 6,
-        Refusal::Memory => 7,
-    }
-}
-
-/// Does the command.
-fn perform<S: Shelf, O: Sink>(
-    alloc: Global,
-    command: &Command<'_>,
-    shelf: &mut S,
-    out: &mut O,
-) -> Result<(), Refusal>
-    ensures { Came (command_script (meant command.now))
-        (view (S.held shelf.old) (S.failed_reads shelf.old) (S.failed_writes shelf.old) (O.written out.old) (O.faults out.old))
-        (view (S.held shelf.new) (S.failed_reads shelf.new) (S.failed_writes shelf.new) (O.written out.new) (O.faults out.new))
-        (result_err result) }
-{
-    match command {
-        Command::Cut(cut) => crate::cut::cut(alloc, cut, shelf, out),
-        Command::Show(show) => crate::show::show(alloc, show, shelf, out),
-    }
-}
 
 /// Does what the words behind the program's name ask for, and gives the exit status.
 ///
@@ -69,6 +34,9 @@ fn perform<S: Shelf, O: Sink>(
 /// a front of its report. What comes before it, in the order OUT, PROOF, `out`, is whole, and what comes behind it is
 /// as it was. On each other status above 0 all files are as they were, and `out` got nothing. Only the files that are
 /// named to be written ever change. A failed put on `err` changes no status.
+///
+/// Status 3 says that a read failed in this call or that the named file is not there, and that the files before it in
+/// the order were read. It does not tie a read that failed to the named file, where that file is there.
 pub fn run<S: Shelf, O: Sink, E: Sink>(
     alloc: Global,
     words: &[String],
@@ -81,15 +49,13 @@ pub fn run<S: Shelf, O: Sink, E: Sink>(
         (view (S.held shelf.new) (S.failed_reads shelf.new) (S.failed_writes shelf.new) (O.written out.new) (O.faults out.new))
         (E.written err.old) (E.written err.new) (E.faults err.old) (E.faults err.new) result }
 {
-    let Some(command) = command_of(words) else {
-        say_usage(err);
-        return 2;
-    };
-    match perform(alloc, &command, shelf, out) {
-        Ok(()) => 0,
-        Err(refusal) => {
-            say_why(err, &command, refusal);
-            status_of(refusal)
+    laws_below();
+    match command_of(words) {
+        None => {
+            say_usage(err);
+            2
         }
+        Some(Command::Cut(cut)) => run_cut(alloc, &cut, shelf, out, err),
+        Some(Command::Show(show)) => run_show(alloc, &show, shelf, out, err),
     }
 }

@@ -1,33 +1,121 @@
-/// A file of a command, or the output.
+ghost use Rattle.std.specs.Prelude.{◌≡◌};
+ghost use Rattle.cgl_app.specs.Refusals.{cause_status, file_in, status_in};
+
+use cgl_model::{Model, Var};
+
+/// A file of a cut.
 #[derive(Clone, Copy)]
-pub enum File {
+pub enum CutFile {
     /// The deck that is read.
     Model,
-    /// The point that is read.
-    Point,
+    /// What is read of where the columns stand.
+    Start,
     /// The deck that is written.
     Out,
     /// The derivations that are written.
     Proof,
-    /// The output that the report is put on.
-    StandardOutput,
 }
 
-/// Why a command did not do its work.
+/// A file of a show.
 #[derive(Clone, Copy)]
-pub enum Refusal {
-    /// The words are of no command. Status 2.
-    Usage,
+pub enum ShowFile {
+    /// The deck that is read.
+    Model,
+    /// The deck that is written.
+    Out,
+}
+
+/// A place of an equation over the variables of a model: that of a variable, or the right side.
+#[derive(Clone, Copy)]
+pub enum Spot {
+    Of(Var),
+    Rhs,
+}
+
+/// What stands in the way at a row or a column of a model, by its number.
+#[derive(Clone, Copy)]
+pub enum Cause {
+    /// The basic column depends on the basic variables before it. Status 5.
+    Singular {
+        column: u32,
+    },
+    /// The row is too wide for its integer form. Status 6.
+    Scale {
+        row: u32,
+    },
+    /// The values of the columns up to this one have no common denominator within the limits. Status 6.
+    TooFine {
+        column: u32,
+    },
+    /// In this step two numbers of the row's equation and the pivot row's do not fit. Status 6.
+    Overflow {
+        step: u32,
+        row: u32,
+        column: Spot,
+        left: i128,
+        right: i128,
+    },
+}
+
+impl Cause {
+    /// The exit status that tells the cause.
+    fn status(self) -> u8
+        ensures { result ≡ cause_status self }
+    {
+        match self {
+            Cause::Singular { .. } => 5,
+            Cause::Scale { .. } | Cause::TooFine { .. } | Cause::Overflow { .. } => 6,
+        }
+    }
+}
+
+/// Why a command did not do its work, where `F` tells the files of the command.
+#[derive(Drop)]
+pub enum Refusal<F> {
     /// A read of this file failed, or the shelf tells its files and this one is not there. Status 3.
-    ReadFault(File),
-    /// A create or an append of this file failed, or a put on the output. Status 4.
-    WriteFault(File),
+    ReadFault(F),
+    /// A create or an append of this file failed. Status 4.
+    WriteFault(F),
+    /// A put on the output failed. Status 4.
+    OutputFault,
     /// This file is not in form: its first bad line, where lines are numbered from 1, and the number of the fault's
     /// kind. Status 5.
-    Input { file: File, line: u64, kind: u8 },
+    Input { file: F, line: u64, kind: u8 },
+    /// A row or a column stands in the way, which has its name in this model. No command gives it.
+    Named { cause: Cause, model: Model },
     /// The deck to be written has more than 2^20 rows or 2^22 entries, or a file to be written more than 2^30 bytes.
     /// Status 6.
     TooLarge,
     /// Memory was refused. Nothing else is told of when this comes. Status 7.
     Memory,
+}
+
+impl<F: Copy> Refusal<F> {
+    /// The file that it is about, if there is one.
+    pub fn file(&self) -> Option<F>
+        ensures { result ≡ file_in self.now }
+    {
+        match self {
+            Refusal::ReadFault(file) => Some(*file),
+            Refusal::WriteFault(file) => Some(*file),
+            Refusal::Input { file, .. } => Some(*file),
+            Refusal::OutputFault | Refusal::Named { .. } | Refusal::TooLarge | Refusal::Memory =>
+                None,
+        }
+    }
+
+    /// The exit status that tells it.
+    pub fn status(&self) -> u8
+        ensures { result ≡ status_in self.now }
+    {
+        match self {
+            Refusal::ReadFault(_) => 3,
+            Refusal::WriteFault(_) => 4,
+            Refusal::OutputFault => 4,
+            Refusal::Input { .. } => 5,
+            Refusal::Named { cause, .. } => cause.status(),
+            Refusal::TooLarge => 6,
+            Refusal::Memory => 7,
+        }
+    }
 }

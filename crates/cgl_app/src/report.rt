@@ -1,13 +1,13 @@
 ghost use Rattle.std.specs.Prelude.{◌≡◌, ◌≤◌, ◌^◌, ◌++◌, codes, decimal, flat_map, length, sum_by, zip, IfOk};
 ghost use Rattle.cgl_model.specs.Valid.{IsSized};
 ghost use Rattle.cgl_num.specs.Fraction.{fraction_text};
-ghost use Rattle.cgl_num.specs.Growth.{Grows};
+ghost use Rattle.cgl_text.specs.Growth.{Grows};
 ghost use Rattle.cgl_app.specs.Report.{counts_text, cut_line, generator_word, key_text, report_text, wide_line};
 
-use cgl_cuts::pool::Kept;
 use cgl_model::{Column, Model, Name};
-use cgl_num::text::Builder;
 use cgl_num::{Frac, Memory};
+use cgl_pool::Kept;
+use cgl_text::Builder;
 use itoa::Buffer;
 use std::alloc::Global;
 

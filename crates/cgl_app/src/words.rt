@@ -1,6 +1,26 @@
 ghost use Rattle.std.specs.Prelude.{◌≡◌, map, string_bytes, option_map};
-ghost use Rattle.cgl_app.specs.Words.{is_name, are_files, asks_cut, asks_show, cut_of, show_of, command_of};
-ghost use Rattle.cgl_app.specs.Meant.{words_of, show_words_of, meant};
+ghost use Rattle.cgl_app.specs.Words.{is_name, are_files, asks_cut, asks_show, cut_of, show_of, command_of, start_name};
+ghost use Rattle.cgl_app.specs.Meant.{cut_file, words_of, show_file, show_words_of, meant, start_of};
+
+use crate::{CutFile, ShowFile};
+
+/// The file that says where the columns stand.
+#[derive(Clone, Copy)]
+pub enum Start<'a> {
+    /// A point file.
+    Point(&'a str),
+}
+
+impl<'a> Start<'a> {
+    /// The name of the file.
+    pub fn name(self) -> &'a str
+        ensures { result.now ≡ start_name (start_of self.entry) }
+    {
+        match self {
+            Start::Point(name) => name,
+        }
+    }
+}
 
 /// The files that a cut is of.
 #[derive(Clone, Copy)]
@@ -8,7 +28,21 @@ pub struct Cut<'a> {
     pub model: &'a str,
     pub out: &'a str,
     pub proof: &'a str,
-    pub point: &'a str,
+    pub start: Start<'a>,
+}
+
+impl<'a> Cut<'a> {
+    /// The name of this file.
+    pub fn name(&self, file: CutFile) -> &'a str
+        ensures { result.now ≡ cut_file (words_of self.now) file }
+    {
+        match file {
+            CutFile::Model => self.model,
+            CutFile::Start => self.start.name(),
+            CutFile::Out => self.out,
+            CutFile::Proof => self.proof,
+        }
+    }
 }
 
 fn is_name(word: &str) -> bool
@@ -18,19 +52,19 @@ fn is_name(word: &str) -> bool
 }
 
 #[tactic(auto, unfolding(crate::specs::Words::are_files))]
-fn are_files(cut: &Cut<'_>) -> bool
-    ensures { result ≡ are_files (words_of cut.now) }
+fn are_files(model: &str, out: &str, proof: &str, start: &str) -> bool
+    ensures { result ≡ are_files model.now out.now proof.now start.now }
 {
-    is_name(cut.model)
-        && is_name(cut.out)
-        && is_name(cut.proof)
-        && is_name(cut.point)
-        && cut.model != cut.out
-        && cut.model != cut.proof
-        && cut.model != cut.point
-        && cut.out != cut.proof
-        && cut.out != cut.point
-        && cut.proof != cut.point
+    is_name(model)
+        && is_name(out)
+        && is_name(proof)
+        && is_name(start)
+        && model != out
+        && model != proof
+        && model != start
+        && out != proof
+        && out != start
+        && proof != start
 }
 
 #[tactic(auto, unfolding(crate::specs::Words::asks_cut))]
@@ -60,16 +94,15 @@ pub fn cut_of(words: &[String]) -> Option<Cut<'_>>
     if !asks_cut(command, point_option, gen_option, generator) {
         return None;
     }
-    let cut = Cut {
+    if !are_files(model, out, proof, point) {
+        return None;
+    }
+    Some(Cut {
         model,
         out,
         proof,
-        point,
-    };
-    if !are_files(&cut) {
-        return None;
-    }
-    Some(cut)
+        start: Start::Point(point),
+    })
 }
 
 /// The files that a show is of.
@@ -77,6 +110,18 @@ pub fn cut_of(words: &[String]) -> Option<Cut<'_>>
 pub struct Show<'a> {
     pub model: &'a str,
     pub out: &'a str,
+}
+
+impl<'a> Show<'a> {
+    /// The name of this file.
+    pub fn name(&self, file: ShowFile) -> &'a str
+        ensures { result.now ≡ show_file (show_words_of self.now) file }
+    {
+        match file {
+            ShowFile::Model => self.model,
+            ShowFile::Out => self.out,
+        }
+    }
 }
 
 #[tactic(auto, unfolding(crate::specs::Words::asks_show))]

@@ -1,9 +1,10 @@
 //! Cases of decks, and of a point.
+ghost use Rattle.std.specs.Prelude.{◌≤◌, length, ◌^◌};
 ghost use Rattle.cgl_model.specs.Valid.{IsValid};
 
 use crate::bytes::bytes_of;
 use crate::numbers::fraction;
-use cgl_deck::{cut_names, deck_len, deck_text, write_deck};
+use cgl_deck::{cut_names, deck_len, write_deck};
 use cgl_model::{End, Forms, Ineq, Model, Place, Point, Seq, Terms};
 use cgl_mps::{DeckError, deck_of};
 use cgl_outside::SureShelf;
@@ -30,15 +31,29 @@ pub fn tell_violation(rt: &impl Print, alloc: Global, word: &str) -> Option<()> 
     .ok()
 }
 
-/// Tells the canonical text, and whether it has the length that is told without it and is what is written to a file.
+/// Whether the model that a text means is written as the same text.
+fn is_written_again(alloc: Global, text: &[u8]) -> Option<bool>
+    requires { length text.now ≤ 2 ^ 30 }
+{
+    let model = deck_of(alloc, text).ok()?;
+    let mut files = SureShelf::new(alloc);
+    write_deck(alloc, &model, &mut files, "again").ok()?;
+    Some(files.file("again") == Some(text))
+}
+
+/// Tells the canonical text as a file holds it, and whether it has the length that is told without it and is read and
+/// written again as the same text.
 fn tell_text(rt: &impl Print, alloc: Global, files: &mut SureShelf, model: &Model) -> Option<()>
     requires { IsValid model.now }
 {
     write_deck(alloc, model, files, "text").ok()?;
-    let text = deck_text(alloc, model).ok()?;
+    let text = files.file("text")?;
+    if text.len() > 1 << 30 {
+        return None;
+    }
     let has_length = text.len() as u64 == deck_len(model);
-    let is_written = files.file("text") == Some(text.as_slice());
-    println!(rt; "  {has_length} {is_written} {}", text.escape_ascii()).ok()
+    let is_again = is_written_again(alloc, text)?;
+    println!(rt; "  {has_length} {is_again} {}", text.escape_ascii()).ok()
 }
 
 /// Tells the names of three cuts.

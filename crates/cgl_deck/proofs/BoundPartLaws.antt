@@ -5,13 +5,13 @@ use Rattle.std.proofs.lemmas.Bool.{and_right}
 use Rattle.cgl_num.specs.Decimal.{Decimal, decimal_text}
 use Rattle.cgl_num.specs.NumberText.{Word, limit}
 use Rattle.cgl_num.specs.declared.number_text.Limit.TheVariants.{Finite}
-use Rattle.cgl_num.specs.Text.{is_one_of}
+use Rattle.cgl_text.specs.Text.{is_one_of}
 use Rattle.cgl_model.specs.declared.mip.Column.{Column}
-use Rattle.cgl_mps.specs.declared.record.Section.TheVariants.{Bounds}
-use Rattle.cgl_mps.specs.declared.record.BoundKind.TheVariants.{Lo, Up, Fx}
-use Rattle.cgl_mps.specs.Records.{Record}
-use Rattle.cgl_mps.specs.Sections.{column_names, counts_after}
-use Rattle.cgl_mps.specs.Faults.{bound_conditions, takes}
+use Rattle.cgl_decode.specs.declared.kinds.Section.TheVariants.{Bounds}
+use Rattle.cgl_decode.specs.declared.kinds.BoundKind.TheVariants.{Lo, Up, Fx}
+use Rattle.cgl_decode.specs.Records.{Record}
+use Rattle.cgl_decode.specs.Sections.{column_names, counts_after}
+use Rattle.cgl_decode.specs.Faults.{bound_conditions, takes}
 use Rattle.cgl_deck.specs.DeckText.{is_zero_decimal, is_same_decimal}
 use Rattle.cgl_deck.specs.DeckLines.{Line, data_of, record_at, bound_line_of, bound_lines, bound_lines_of, both_lines, lower_lines}
 use Rattle.cgl_deck.proofs.PartLaws.{IsGood, Part, fine, first, nothing}

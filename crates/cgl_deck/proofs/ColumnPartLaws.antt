@@ -6,13 +6,13 @@ use Rattle.std.proofs.lemmas.List.Folds.{list_any-append}
 use Rattle.std.proofs.lemmas.List.Sums.{sum_by-cons}
 use Rattle.cgl_num.specs.Decimal.{Decimal, decimal_text}
 use Rattle.cgl_num.specs.NumberText.{Word, number}
-use Rattle.cgl_num.specs.Text.{is_one_of}
+use Rattle.cgl_text.specs.Text.{is_one_of}
 use Rattle.cgl_model.specs.declared.mip.Row.{Row}
 use Rattle.cgl_model.specs.declared.mip.Column.{Column}
 use Rattle.cgl_model.specs.Valid.{AreDistinct, AreDistinctRows, IsColumn, IsName, IsRowName}
-use Rattle.cgl_mps.specs.Records.{Record}
-use Rattle.cgl_mps.proofs.CountLaws.{not_reached}
-use Rattle.cgl_mps.proofs.DistinctLaws.{same_word}
+use Rattle.cgl_decode.specs.Records.{Record}
+use Rattle.cgl_decode.proofs.CountLaws.{not_reached}
+use Rattle.cgl_decode.proofs.DistinctLaws.{same_word}
 use Rattle.cgl_deck.specs.DeckText.{row_name}
 use Rattle.cgl_deck.specs.DeckLines.{column_lines, columns_lines, entry_line, marker_line, marker_lines, record_at}
 use Rattle.cgl_deck.proofs.PartLaws.{IsGood, Part, first, nothing, then, weaken}

@@ -13,9 +13,9 @@ use Rattle.cgl_model.specs.declared.mip.Column.{Column}
 use Rattle.cgl_model.specs.declared.mip.Model.{Model}
 use Rattle.cgl_model.specs.HasDecimals.{HasDecimals, IsDecimalColumn, IsDecimalRow}
 use Rattle.cgl_model.specs.Valid.{IsColumn, IsModelName, IsName, IsRowName, IsValid, is_name_byte}
-use Rattle.cgl_mps.specs.declared.record.Section.{Section}
-use Rattle.cgl_mps.specs.declared.record.Section.TheVariants.{Start, Name, Sense, Rows, Columns, Rhs, Ranges, Bounds, End}
-use Rattle.cgl_mps.specs.Records.{same_section}
+use Rattle.cgl_decode.specs.declared.kinds.Section.{Section}
+use Rattle.cgl_decode.specs.declared.kinds.Section.TheVariants.{Start, Name, Sense, Rows, Columns, Rhs, Ranges, Bounds, End}
+use Rattle.cgl_decode.specs.Records.{same_section}
 use Rattle.cgl_deck.specs.DeckText.{is_same_decimal, is_zero_decimal, kind_word, row_name}
 use Rattle.cgl_deck.specs.DeckLines.{Line, behind_spaces, both_lines, bound_line_of, bound_lines, bound_lines_of, column_lines, columns_lines, data_of, deck_lines, entry_line, header_of, line_bytes, marker_lines, name_words, range_lines, range_lines_of, rhs_lines, row_line, section_lines, sense_lines}
 use Rattle.cgl_deck.proofs.LineLaws.{AreLines, AreWords, IsEnded, IsStart, is_word}

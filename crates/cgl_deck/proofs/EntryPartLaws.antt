@@ -8,17 +8,17 @@ use Rattle.std.proofs.lemmas.List.Elements.{filter-append}
 use Rattle.std.proofs.lemmas.List.Folds.{list_any-append}
 use Rattle.cgl_num.specs.Decimal.{Decimal, decimal_text}
 use Rattle.cgl_num.specs.NumberText.{Word, number}
-use Rattle.cgl_num.specs.Text.{is_one_of}
+use Rattle.cgl_text.specs.Text.{is_one_of}
 use Rattle.cgl_model.specs.declared.mip.Row.{Row}
 use Rattle.cgl_model.specs.Valid.{IsName, IsRowName}
-use Rattle.cgl_mps.specs.declared.record.Section.TheVariants.{Columns}
-use Rattle.cgl_mps.specs.Records.{Record, field, data_in, has_header}
-use Rattle.cgl_mps.specs.Sections.{Pair, distinct, is_marker, marker, names_column, column_records, column_names, entry_pairs, row_names}
-use Rattle.cgl_mps.specs.Faults.{columns_conditions, column_conditions, is_marker_form, is_new_column, is_split, names_row, pairs_of_column}
-use Rattle.cgl_mps.specs.Decode.{deck_limits}
-use Rattle.cgl_mps.proofs.CountLaws.{distinct-push, not_reached}
-use Rattle.cgl_mps.proofs.DistinctLaws.{same_word}
-use Rattle.cgl_mps.proofs.NameLaws.{any-filter, any-same, is_new_column-names, is_one_of-distinct}
+use Rattle.cgl_decode.specs.declared.kinds.Section.TheVariants.{Columns}
+use Rattle.cgl_decode.specs.Records.{Record, field, data_in, has_header}
+use Rattle.cgl_decode.specs.Sections.{Pair, distinct, is_marker, marker, names_column, column_records, column_names, entry_pairs, row_names}
+use Rattle.cgl_decode.specs.Faults.{columns_conditions, column_conditions, is_marker_form, is_new_column, is_split, names_row, pairs_of_column}
+use Rattle.cgl_decode.specs.Decode.{deck_limits}
+use Rattle.cgl_decode.proofs.CountLaws.{distinct-push, not_reached}
+use Rattle.cgl_decode.proofs.DistinctLaws.{same_word}
+use Rattle.cgl_decode.proofs.NameLaws.{any-filter, any-same, is_new_column-names, is_one_of-distinct}
 use Rattle.cgl_deck.specs.DeckText.{row_name}
 use Rattle.cgl_deck.specs.DeckLines.{entry_line, marker_line, record_at}
 use Rattle.cgl_deck.proofs.PartLaws.{IsGood, NoneHolds, Under, data_push, fine, header_stays, rows_same, under_push}

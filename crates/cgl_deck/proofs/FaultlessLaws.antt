@@ -7,18 +7,18 @@ use Rattle.std.proofs.lemmas.List.Elements.{filter-append}
 use Rattle.cgl_num.specs.Decimal.{Decimal, IsDecimal, decimal_text, scaled}
 use Rattle.cgl_num.specs.NumberText.{Word, limit, number}
 use Rattle.cgl_num.specs.declared.number_text.Limit.TheVariants.{Finite}
-use Rattle.cgl_num.specs.Text.{is_one_of}
+use Rattle.cgl_text.specs.Text.{is_one_of}
 use Rattle.cgl_model.specs.HasDecimals.{HasDecimals, IsDecimalColumn, IsDecimalRow}
 use Rattle.cgl_model.specs.declared.mip.Column.{Column}
 use Rattle.cgl_model.specs.declared.mip.Model.{Model}
 use Rattle.cgl_model.specs.declared.mip.Row.{Row}
 use Rattle.cgl_model.specs.Valid.{AreDistinct, IsBound, IsColumn, IsModelName, IsRowName, IsValid, is_name_byte}
-use Rattle.cgl_mps.specs.declared.record.Section.TheVariants.{Name, Rows, Columns, Rhs, Ranges, Bounds, End}
-use Rattle.cgl_mps.specs.Records.{Record, before, data_in, field, is_end, is_kept, kept}
-use Rattle.cgl_mps.specs.Sections.{distinct, entry_pairs, is_marker, row_in}
-use Rattle.cgl_mps.specs.Faults.{Limits, conditions, fault_after, fault_at, faults, first_kind, header_conditions, is_long, set_conditions}
-use Rattle.cgl_mps.specs.Decode.{deck_limits}
-use Rattle.cgl_mps.proofs.DistinctLaws.{same_word}
+use Rattle.cgl_decode.specs.declared.kinds.Section.TheVariants.{Name, Rows, Columns, Rhs, Ranges, Bounds, End}
+use Rattle.cgl_decode.specs.Records.{Record, before, data_in, field, is_end, is_kept, kept}
+use Rattle.cgl_decode.specs.Sections.{distinct, entry_pairs, is_marker, row_in}
+use Rattle.cgl_decode.specs.Faults.{Limits, conditions, fault_after, fault_at, faults, first_kind, header_conditions, is_long, set_conditions}
+use Rattle.cgl_decode.specs.Decode.{deck_limits}
+use Rattle.cgl_decode.proofs.DistinctLaws.{same_word}
 use Rattle.cgl_deck.specs.DeckText.{is_zero_decimal}
 use Rattle.cgl_deck.specs.DeckLines.{Line, bound_lines, columns_lines, data_of, deck_lines, header_of, line_bytes, name_words, numbered, range_lines, range_lines_of, record_at, rhs_lines, row_line, section_lines, sense_lines}
 use Rattle.cgl_deck.proofs.PartLaws.{Faultless, IsHighest, Part, Under, all_push, data_none, data_same, fine, first, header_new, nothing, ranked, rows_same, then, under_push, weaken, well_placed}

@@ -5,11 +5,11 @@ use Rattle.std.specs.List.{AllByRecursion, list_all, onto_first}
 use Rattle.std.proofs.lemmas.Bool.{and_from, and_parts, not-true, not_from_false, or_parts}
 use Rattle.std.proofs.lemmas.List.Folds.{list_all-append}
 use Rattle.cgl_num.specs.NumberText.{Word}
-use Rattle.cgl_num.specs.Text.{begins_blank, fields_of, is_blank, lines_of}
+use Rattle.cgl_text.specs.Text.{begins_blank, fields_of, is_blank, lines_of}
 use Rattle.cgl_model.specs.Valid.{is_name_byte}
-use Rattle.cgl_mps.specs.declared.record.Section.{Section}
-use Rattle.cgl_mps.specs.declared.record.Section.TheVariants.{Start, End}
-use Rattle.cgl_mps.specs.Records.{Record, first_word, is_header, kept_fields, no_field, record_of, records, records_from, same_section, section_after, section_named, up_to_end}
+use Rattle.cgl_decode.specs.declared.kinds.Section.{Section}
+use Rattle.cgl_decode.specs.declared.kinds.Section.TheVariants.{Start, End}
+use Rattle.cgl_decode.specs.Records.{Record, first_word, is_header, kept_fields, no_field, record_of, records, records_from, same_section, section_after, section_named, up_to_end}
 use Rattle.cgl_deck.specs.DeckLines.{Line, behind_spaces, line_bytes, numbered, record_at, text_of}
 
 -- ---- words

@@ -10,12 +10,12 @@ use Rattle.cgl_num.specs.declared.number_text.Limit.TheVariants.{Finite}
 use Rattle.cgl_model.specs.HasDecimals.{IsDecimalColumn}
 use Rattle.cgl_model.specs.Valid.{AreDistinct, IsBound, IsColumn}
 use Rattle.cgl_model.specs.declared.mip.Column.{Column}
-use Rattle.cgl_mps.specs.declared.record.Section.TheVariants.{Bounds}
-use Rattle.cgl_mps.specs.Records.{Record, data_in}
-use Rattle.cgl_mps.specs.Sections.{Bound, bound_in, counting_bounds}
-use Rattle.cgl_mps.specs.Models.{bounds_of, is_below_zero, lower_of, makes_integer, upper_of}
-use Rattle.cgl_mps.proofs.DistinctLaws.{not_false}
-use Rattle.cgl_mps.proofs.SoundLaws.{all_map, all_unmap, all_weaker}
+use Rattle.cgl_decode.specs.declared.kinds.Section.TheVariants.{Bounds}
+use Rattle.cgl_decode.specs.Records.{Record, data_in}
+use Rattle.cgl_decode.specs.Sections.{Bound, bound_in, counting_bounds}
+use Rattle.cgl_decode.specs.Models.{bounds_of, is_below_zero, lower_of, makes_integer, upper_of}
+use Rattle.cgl_decode.proofs.DistinctLaws.{not_false}
+use Rattle.cgl_decode.proofs.SoundLaws.{all_map, all_unmap, all_weaker}
 use Rattle.cgl_deck.specs.DeckText.{is_same_decimal, is_zero_decimal}
 use Rattle.cgl_deck.specs.DeckLines.{Line, bound_line_of, bound_lines, bound_lines_of, both_lines}
 use Rattle.cgl_deck.proofs.MeantLineLaws.{fields_in, words_of}

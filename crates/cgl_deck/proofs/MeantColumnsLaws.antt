@@ -7,17 +7,17 @@ use Rattle.std.proofs.lemmas.List.Elements.{filter-append}
 use Rattle.std.proofs.lemmas.List.Folds.{flat_map-map}
 use Rattle.cgl_num.specs.Decimal.{Decimal, IsDecimal}
 use Rattle.cgl_num.specs.NumberText.{Word}
-use Rattle.cgl_num.specs.Text.{is_one_of}
+use Rattle.cgl_text.specs.Text.{is_one_of}
 use Rattle.cgl_model.specs.HasDecimals.{IsDecimalColumn}
 use Rattle.cgl_model.specs.Valid.{AreDistinct, IsRowName}
 use Rattle.cgl_model.specs.declared.mip.Column.{Column}
 use Rattle.cgl_model.specs.declared.mip.Row.{Row}
-use Rattle.cgl_mps.specs.declared.record.Section.TheVariants.{Columns}
-use Rattle.cgl_mps.specs.Records.{Record, data_in}
-use Rattle.cgl_mps.specs.Sections.{Pair, column_names, column_records, distinct, marker, names_column, pairs_of, rest, row_names}
-use Rattle.cgl_mps.specs.Models.{entries_of, entry_of}
-use Rattle.cgl_mps.proofs.DistinctLaws.{flip_differ, not_false, or_false_parts, same_word}
-use Rattle.cgl_mps.proofs.SoundLaws.{all_weaker}
+use Rattle.cgl_decode.specs.declared.kinds.Section.TheVariants.{Columns}
+use Rattle.cgl_decode.specs.Records.{Record, data_in}
+use Rattle.cgl_decode.specs.Sections.{Pair, column_names, column_records, distinct, marker, names_column, pairs_of, rest, row_names}
+use Rattle.cgl_decode.specs.Models.{entries_of, entry_of}
+use Rattle.cgl_decode.proofs.DistinctLaws.{flip_differ, not_false, or_false_parts, same_word}
+use Rattle.cgl_decode.proofs.SoundLaws.{all_weaker}
 use Rattle.cgl_deck.specs.DeckText.{row_name}
 use Rattle.cgl_deck.specs.DeckLines.{Line, column_lines, columns_lines, entry_line, marker_lines}
 use Rattle.cgl_deck.proofs.MeantLineLaws.{fields_in, words_of}

@@ -4,10 +4,10 @@ use Rattle.std.specs.List.{AllByRecursion, cons_option}
 use Rattle.std.proofs.lemmas.List.Elements.{filter-append, filter_map-append}
 use Rattle.std.proofs.lemmas.Grind.{flat_map-append}
 use Rattle.cgl_num.specs.NumberText.{Word}
-use Rattle.cgl_num.specs.Text.{is_one_of}
+use Rattle.cgl_text.specs.Text.{is_one_of}
 use Rattle.cgl_model.specs.Valid.{AreDistinct}
-use Rattle.cgl_mps.proofs.DistinctLaws.{flip_differ, not_false, or_false_parts, same_word}
-use Rattle.cgl_mps.proofs.SoundLaws.{all_append}
+use Rattle.cgl_decode.proofs.DistinctLaws.{flip_differ, not_false, or_false_parts, same_word}
+use Rattle.cgl_decode.proofs.SoundLaws.{all_append}
 
 pub all_both : {X : Type 0} (P Q R : X → Type 0) → ((x : X) → P x → Q x → R x) → (xs : List X) → AllByRecursion P xs → AllByRecursion Q xs → AllByRecursion R xs
 all_both P Q R both [] all more = tt

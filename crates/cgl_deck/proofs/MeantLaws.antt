@@ -6,11 +6,11 @@ use Rattle.cgl_model.specs.Valid.{IsColumn, IsValid}
 use Rattle.cgl_model.specs.declared.mip.Column.{Column}
 use Rattle.cgl_model.specs.declared.mip.Model.{Model}
 use Rattle.cgl_model.specs.declared.mip.Row.{Row}
-use Rattle.cgl_mps.specs.declared.record.Section.TheVariants.{Rows, Columns, Rhs, Ranges, Bounds}
-use Rattle.cgl_mps.specs.Records.{Record, data_in, kept}
-use Rattle.cgl_mps.specs.Sections.{column_names, column_records, row_names, rows}
-use Rattle.cgl_mps.specs.Models.{bounds_of, column_of, entries_of, is_marked, lower_of, makes_integer, model_of, row_of, upper_of}
-use Rattle.cgl_mps.proofs.SoundLaws.{all_weaker}
+use Rattle.cgl_decode.specs.declared.kinds.Section.TheVariants.{Rows, Columns, Rhs, Ranges, Bounds}
+use Rattle.cgl_decode.specs.Records.{Record, data_in, kept}
+use Rattle.cgl_decode.specs.Sections.{column_names, column_records, row_names, rows}
+use Rattle.cgl_decode.specs.Models.{bounds_of, column_of, entries_of, is_marked, lower_of, makes_integer, model_of, row_of, upper_of}
+use Rattle.cgl_decode.proofs.SoundLaws.{all_weaker}
 use Rattle.cgl_deck.specs.DeckLines.{columns_lines, deck_lines, numbered}
 use Rattle.cgl_deck.proofs.MeantLineLaws.{bounds_words, columns_words, deck_worded, fields_in, name_said, numbered_fields, numbered_kept, ranges_words, rhs_words, rows_words, sense_said}
 use Rattle.cgl_deck.proofs.MeantGroupLaws.{all_both, map_back, map_map}

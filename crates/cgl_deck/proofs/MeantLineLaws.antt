@@ -5,16 +5,16 @@ use Rattle.std.proofs.lemmas.List.{map-append}
 use Rattle.std.proofs.lemmas.List.Elements.{filter-append, filter_map-append}
 use Rattle.cgl_num.specs.Decimal.{Decimal, decimal_text}
 use Rattle.cgl_num.specs.NumberText.{Word}
-use Rattle.cgl_num.specs.Text.{is_one_of}
+use Rattle.cgl_text.specs.Text.{is_one_of}
 use Rattle.cgl_model.specs.declared.mip.Row.{Row}
 use Rattle.cgl_model.specs.declared.mip.Column.{Column}
 use Rattle.cgl_model.specs.declared.mip.Model.{Model}
-use Rattle.cgl_mps.specs.declared.record.Section.{Section}
-use Rattle.cgl_mps.specs.declared.record.Section.TheVariants.{Name, Sense, Rows, Columns, Rhs, Ranges, Bounds, End}
-use Rattle.cgl_mps.specs.Records.{Record, data_in, kept, no_field, same_section}
-use Rattle.cgl_mps.specs.Sections.{sense_in, senses}
-use Rattle.cgl_mps.specs.Models.{last_or, name_in}
-use Rattle.cgl_mps.proofs.SoundLaws.{all_append, all_weaker}
+use Rattle.cgl_decode.specs.declared.kinds.Section.{Section}
+use Rattle.cgl_decode.specs.declared.kinds.Section.TheVariants.{Name, Sense, Rows, Columns, Rhs, Ranges, Bounds, End}
+use Rattle.cgl_decode.specs.Records.{Record, data_in, kept, no_field, same_section}
+use Rattle.cgl_decode.specs.Sections.{sense_in, senses}
+use Rattle.cgl_decode.specs.Models.{last_or, name_in}
+use Rattle.cgl_decode.proofs.SoundLaws.{all_append, all_weaker}
 use Rattle.cgl_deck.specs.DeckText.{is_same_decimal, is_zero_decimal}
 use Rattle.cgl_deck.specs.DeckLines.{Line, bound_lines, bound_lines_of, bound_line_of, column_lines, columns_lines, data_of, deck_lines, entry_line, header_of, marker_lines, name_words, numbered, range_lines, range_lines_of, record_at, rhs_lines, row_line, section_lines, sense_lines}
 

@@ -5,16 +5,16 @@ use Rattle.std.proofs.lemmas.List.{map-append}
 use Rattle.std.proofs.lemmas.List.Elements.{filter-append}
 use Rattle.cgl_num.specs.Decimal.{Decimal}
 use Rattle.cgl_num.specs.NumberText.{Word}
-use Rattle.cgl_num.specs.Text.{is_one_of}
+use Rattle.cgl_text.specs.Text.{is_one_of}
 use Rattle.cgl_model.specs.Valid.{AreDistinct}
 use Rattle.cgl_model.specs.declared.mip.Column.{Column}
 use Rattle.cgl_model.specs.declared.mip.Row.{Row}
-use Rattle.cgl_mps.specs.declared.record.Section.TheVariants.{Columns}
-use Rattle.cgl_mps.specs.Records.{Record, data_in}
-use Rattle.cgl_mps.specs.Sections.{is_marker, names_column}
-use Rattle.cgl_mps.specs.Models.{is_marked, last_or}
-use Rattle.cgl_mps.proofs.DistinctLaws.{not_false, same_word}
-use Rattle.cgl_mps.proofs.SoundLaws.{all_weaker}
+use Rattle.cgl_decode.specs.declared.kinds.Section.TheVariants.{Columns}
+use Rattle.cgl_decode.specs.Records.{Record, data_in}
+use Rattle.cgl_decode.specs.Sections.{is_marker, names_column}
+use Rattle.cgl_decode.specs.Models.{is_marked, last_or}
+use Rattle.cgl_decode.proofs.DistinctLaws.{not_false, same_word}
+use Rattle.cgl_decode.proofs.SoundLaws.{all_weaker}
 use Rattle.cgl_deck.specs.DeckLines.{Line, column_lines, columns_lines, entry_line, marker_lines}
 use Rattle.cgl_deck.proofs.MeantLineLaws.{fields_in, words_of}
 use Rattle.cgl_deck.proofs.MeantGroupLaws.{all_apart, all_both, map_filter, map_map, none_pass}

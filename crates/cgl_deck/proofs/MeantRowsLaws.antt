@@ -11,13 +11,13 @@ use Rattle.cgl_model.specs.Valid.{AreDistinct}
 use Rattle.cgl_model.specs.declared.mip.RowKind.{RowKind}
 use Rattle.cgl_model.specs.declared.mip.RowKind.TheVariants.{N, L, G, E}
 use Rattle.cgl_model.specs.declared.mip.Row.{Row}
-use Rattle.cgl_mps.specs.declared.record.Section.{Section}
-use Rattle.cgl_mps.specs.declared.record.Section.TheVariants.{Rows, Rhs, Ranges}
-use Rattle.cgl_mps.specs.Records.{Record, data_in}
-use Rattle.cgl_mps.specs.Sections.{Pair, counting, counting_pairs, counts_after, first_or, is_odd, pairs_of, rest, row_in, rows, same_set, set_in, set_pairs}
-use Rattle.cgl_mps.specs.Models.{row_of, value_at}
-use Rattle.cgl_mps.proofs.DistinctLaws.{same_word}
-use Rattle.cgl_mps.proofs.SoundLaws.{all_map, all_unmap, all_weaker}
+use Rattle.cgl_decode.specs.declared.kinds.Section.{Section}
+use Rattle.cgl_decode.specs.declared.kinds.Section.TheVariants.{Rows, Rhs, Ranges}
+use Rattle.cgl_decode.specs.Records.{Record, data_in}
+use Rattle.cgl_decode.specs.Sections.{Pair, counting, counting_pairs, counts_after, first_or, is_odd, pairs_of, rest, row_in, rows, same_set, set_in, set_pairs}
+use Rattle.cgl_decode.specs.Models.{row_of, value_at}
+use Rattle.cgl_decode.proofs.DistinctLaws.{same_word}
+use Rattle.cgl_decode.proofs.SoundLaws.{all_map, all_unmap, all_weaker}
 use Rattle.cgl_deck.specs.DeckText.{is_zero_decimal, kind_word}
 use Rattle.cgl_deck.specs.DeckLines.{Line, data_of, range_lines, range_lines_of, rhs_lines, row_line}
 use Rattle.cgl_deck.proofs.MeantLineLaws.{all_flat_map, fields_in, words_of}

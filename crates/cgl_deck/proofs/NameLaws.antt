@@ -3,7 +3,7 @@ use Rattle.std.proofs.Common.{◌≡◌, List, ℕ, suc, ◌+◌, ◌-◌, ◌<�
 use Rattle.std.specs.Str.{bytes_eq}
 use Rattle.std.proofs.lemmas.Bool.{cases_Bool}
 use Rattle.cgl_num.specs.NumberText.{Word}
-use Rattle.cgl_num.specs.Text.{is_one_of}
+use Rattle.cgl_text.specs.Text.{is_one_of}
 use Rattle.cgl_model.specs.declared.mip.Model.{Model}
 use Rattle.cgl_model.specs.declared.mip.Row.{Row}
 use Rattle.cgl_deck.specs.CutNames.{cut_name, cut_names, is_unused, numbers_from}

@@ -5,12 +5,12 @@ use Rattle.std.proofs.lemmas.Bool.{le-ltb, ne_eqb, and_right, or_from}
 use Rattle.std.proofs.lemmas.List.Elements.{filter-append}
 use Rattle.std.proofs.lemmas.List.Folds.{list_any-append}
 use Rattle.cgl_num.specs.NumberText.{Word}
-use Rattle.cgl_mps.specs.declared.record.Section.{Section}
-use Rattle.cgl_mps.specs.declared.record.Section.TheVariants.{Start, Name, Sense, Rows, Columns, Rhs, Ranges, Bounds, End, Unsupported, Unknown}
-use Rattle.cgl_mps.specs.Records.{Record, field, place, same_section, is_kept, data_in, has_header}
-use Rattle.cgl_mps.specs.Sections.{row_in, row_names, distinct, is_marker, column_names}
-use Rattle.cgl_mps.specs.Faults.{Condition, first_kind, conditions, rank, needs, is_misplaced}
-use Rattle.cgl_mps.specs.Decode.{deck_limits}
+use Rattle.cgl_decode.specs.declared.kinds.Section.{Section}
+use Rattle.cgl_decode.specs.declared.kinds.Section.TheVariants.{Start, Name, Sense, Rows, Columns, Rhs, Ranges, Bounds, End, Unsupported, Unknown}
+use Rattle.cgl_decode.specs.Records.{Record, field, place, same_section, is_kept, data_in, has_header}
+use Rattle.cgl_decode.specs.Sections.{row_in, row_names, distinct, is_marker, column_names}
+use Rattle.cgl_decode.specs.Faults.{Condition, first_kind, conditions, rank, needs, is_misplaced}
+use Rattle.cgl_decode.specs.Decode.{deck_limits}
 use Rattle.cgl_deck.specs.DeckLines.{Line, header_of, record_at, numbered}
 
 -- ---- conditions of which none holds

@@ -9,9 +9,9 @@ use Rattle.cgl_model.specs.declared.mip.Column.{Column}
 use Rattle.cgl_model.specs.declared.mip.Model.{Model}
 use Rattle.cgl_model.specs.HasDecimals.{HasDecimals}
 use Rattle.cgl_model.specs.Valid.{IsValid}
-use Rattle.cgl_mps.specs.declared.record.Section.{Section}
-use Rattle.cgl_mps.specs.declared.record.Section.TheVariants.{Name, Rows, Columns, Rhs, Ranges, Bounds, End}
-use Rattle.cgl_mps.specs.Records.{records}
+use Rattle.cgl_decode.specs.declared.kinds.Section.{Section}
+use Rattle.cgl_decode.specs.declared.kinds.Section.TheVariants.{Name, Rows, Columns, Rhs, Ranges, Bounds, End}
+use Rattle.cgl_decode.specs.Records.{records}
 use Rattle.cgl_deck.specs.DeckText.{both_text, bound_line, bound_text, bounds_text, column_text, columns_text, data_line, deck_text, entry_text, is_same_decimal, is_zero_decimal, kind_word, lower_text, marker_text, name_text, range_line, range_text, rhs_text, row_name, row_text, section_text, sense_text}
 use Rattle.cgl_deck.specs.DeckLines.{Line, behind_spaces, both_lines, bound_line_of, bound_lines, bound_lines_of, column_lines, columns_lines, data_of, deck_lines, entry_line, header_of, line_bytes, lower_lines, marker_lines, name_words, numbered, range_lines, range_lines_of, rhs_lines, row_line, section_lines, sense_lines, text_of}
 use Rattle.cgl_deck.proofs.DeckLineLaws.{deck_well_formed}

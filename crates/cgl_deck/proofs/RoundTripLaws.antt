@@ -6,10 +6,10 @@ use Rattle.cgl_outside.proofs.ShelfLaws.{file_of-with_file}
 use Rattle.cgl_model.specs.declared.mip.Model.{Model}
 use Rattle.cgl_model.specs.HasDecimals.{HasDecimals}
 use Rattle.cgl_model.specs.Valid.{IsValid}
-use Rattle.cgl_mps.specs.Decode.{Deck, Fault, decode, deck_limits, outcome}
-use Rattle.cgl_mps.specs.Faults.{faults}
-use Rattle.cgl_mps.specs.Models.{model_of}
-use Rattle.cgl_mps.specs.Records.{kept}
+use Rattle.cgl_decode.specs.Decode.{Deck, Fault, decode, deck_limits, outcome}
+use Rattle.cgl_decode.specs.Faults.{faults}
+use Rattle.cgl_decode.specs.Models.{model_of}
+use Rattle.cgl_decode.specs.Records.{kept}
 use Rattle.cgl_deck.specs.DeckLines.{deck_lines, numbered}
 use Rattle.cgl_deck.specs.DeckText.{deck_text}
 use Rattle.cgl_deck.specs.StoredDeck.{HoldsDeck, HoldsPart}

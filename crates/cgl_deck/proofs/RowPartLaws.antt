@@ -6,18 +6,18 @@ use Rattle.std.proofs.lemmas.List.{map-append}
 use Rattle.std.proofs.lemmas.List.Elements.{filter_map-append}
 use Rattle.std.proofs.lemmas.List.Folds.{list_any-append}
 use Rattle.cgl_num.specs.NumberText.{Word}
-use Rattle.cgl_num.specs.Text.{is_one_of}
+use Rattle.cgl_text.specs.Text.{is_one_of}
 use Rattle.cgl_model.specs.declared.mip.RowKind.{RowKind}
 use Rattle.cgl_model.specs.declared.mip.RowKind.TheVariants.{N, L, G, E}
 use Rattle.cgl_model.specs.declared.mip.Row.{Row}
 use Rattle.cgl_model.specs.Valid.{AreDistinct, IsName, IsRowName, is_name_byte}
-use Rattle.cgl_mps.specs.declared.record.Section.TheVariants.{Rows}
-use Rattle.cgl_mps.specs.Records.{Record, data_in, has_header}
-use Rattle.cgl_mps.specs.Sections.{row_in, row_names}
-use Rattle.cgl_mps.specs.Faults.{is_long, row_conditions}
-use Rattle.cgl_mps.specs.Decode.{deck_limits}
-use Rattle.cgl_mps.proofs.CountLaws.{not_reached}
-use Rattle.cgl_mps.proofs.DistinctLaws.{equal_words, flip_differ, same_word}
+use Rattle.cgl_decode.specs.declared.kinds.Section.TheVariants.{Rows}
+use Rattle.cgl_decode.specs.Records.{Record, data_in, has_header}
+use Rattle.cgl_decode.specs.Sections.{row_in, row_names}
+use Rattle.cgl_decode.specs.Faults.{is_long, row_conditions}
+use Rattle.cgl_decode.specs.Decode.{deck_limits}
+use Rattle.cgl_decode.proofs.CountLaws.{not_reached}
+use Rattle.cgl_decode.proofs.DistinctLaws.{equal_words, flip_differ, same_word}
 use Rattle.cgl_deck.specs.DeckText.{kind_word, row_name}
 use Rattle.cgl_deck.specs.DeckLines.{record_at, row_line}
 use Rattle.cgl_deck.proofs.PartLaws.{IsGood, Part, Under, data_push, fine, first, header_stays, nothing, under_push}

@@ -4,16 +4,16 @@ use Rattle.std.specs.List.{list_any, AllByRecursion}
 use Rattle.std.proofs.lemmas.Bool.{and_right, not-true, or_from, or_parts}
 use Rattle.std.proofs.lemmas.List.Folds.{list_any-append}
 use Rattle.cgl_num.specs.NumberText.{Word, number}
-use Rattle.cgl_num.specs.Text.{is_one_of}
+use Rattle.cgl_text.specs.Text.{is_one_of}
 use Rattle.cgl_model.specs.declared.mip.Row.{Row}
 use Rattle.cgl_model.specs.Valid.{AreDistinct}
-use Rattle.cgl_mps.specs.declared.record.Section.{Section}
-use Rattle.cgl_mps.specs.declared.record.Section.TheVariants.{Rows, Columns}
-use Rattle.cgl_mps.specs.Records.{Record, place, same_section, data_in, has_header}
-use Rattle.cgl_mps.specs.Sections.{row_names, column_names, set_pairs, counting_pairs, counts_after}
-use Rattle.cgl_mps.specs.Faults.{names_row, set_conditions}
-use Rattle.cgl_mps.proofs.DistinctLaws.{flip_differ}
-use Rattle.cgl_mps.proofs.NameLaws.{any-flat_map}
+use Rattle.cgl_decode.specs.declared.kinds.Section.{Section}
+use Rattle.cgl_decode.specs.declared.kinds.Section.TheVariants.{Rows, Columns}
+use Rattle.cgl_decode.specs.Records.{Record, place, same_section, data_in, has_header}
+use Rattle.cgl_decode.specs.Sections.{row_names, column_names, set_pairs, counting_pairs, counts_after}
+use Rattle.cgl_decode.specs.Faults.{names_row, set_conditions}
+use Rattle.cgl_decode.proofs.DistinctLaws.{flip_differ}
+use Rattle.cgl_decode.proofs.NameLaws.{any-flat_map}
 use Rattle.cgl_deck.specs.DeckLines.{Line, data_of, header_of, record_at, section_lines}
 use Rattle.cgl_deck.proofs.PartLaws.{IsGood, NoneHolds, Part, Under, columns_same, data_none, data_push, first, header_stays, nothing, rows_same, then, under_more, under_push}
 use Rattle.cgl_deck.proofs.RowPartLaws.{names_of}

@@ -4,7 +4,7 @@ use Rattle.std.proofs.Math.Seq.{drop-cons}
 use Rattle.std.proofs.lemmas.List.{drop_all, take_all}
 use Rattle.cgl_num.specs.Decimal.{Decimal, decimal_text}
 use Rattle.cgl_num.specs.NumberText.{Word}
-use Rattle.cgl_num.proofs.GrowthLaws.{flat_map_more, grows_nothing, grows_then}
+use Rattle.cgl_text.specs.GrowthLaws.{flat_map_more, grows_nothing, grows_then}
 use Rattle.cgl_model.specs.declared.mip.Column.{Column}
 use Rattle.cgl_model.specs.declared.mip.Model.{Model}
 use Rattle.cgl_model.specs.declared.mip.Row.{Row}

@@ -1,7 +1,7 @@
 -- Names for the rows of cuts.
 use Rattle.std.specs.Prelude.{ℕ, zero, suc, ◌+◌, Bool, not, List, [], ◌∷◌, ◌++◌, codes, decimal, length, map, filter, take}
 use Rattle.cgl_num.specs.NumberText.{Word}
-use Rattle.cgl_num.specs.Text.{is_one_of}
+use Rattle.cgl_text.specs.Text.{is_one_of}
 use Rattle.cgl_model.specs.declared.mip.Model.{Model}
 
 abbrev pub cut_name : ℕ → Word

@@ -5,9 +5,9 @@ use Rattle.cgl_num.specs.NumberText.{Word}
 use Rattle.cgl_model.specs.declared.mip.Row.{Row}
 use Rattle.cgl_model.specs.declared.mip.Column.{Column}
 use Rattle.cgl_model.specs.declared.mip.Model.{Model}
-use Rattle.cgl_mps.specs.declared.record.Section.{Section}
-use Rattle.cgl_mps.specs.declared.record.Section.TheVariants.{Name, Sense, Rows, Columns, Rhs, Ranges, Bounds, End}
-use Rattle.cgl_mps.specs.Records.{Record}
+use Rattle.cgl_decode.specs.declared.kinds.Section.{Section}
+use Rattle.cgl_decode.specs.declared.kinds.Section.TheVariants.{Name, Sense, Rows, Columns, Rhs, Ranges, Bounds, End}
+use Rattle.cgl_decode.specs.Records.{Record}
 use Rattle.cgl_deck.specs.DeckText.{kind_word, row_name, is_zero_decimal, is_same_decimal}
 
 pub record Line : Type 0 where

@@ -1,6 +1,6 @@
 -- Texts that are written or only measured.
 use Rattle.std.specs.Prelude.{◌≡◌, ℕ, ◌+◌, List, [], length, Option, None, Some, is_some, true}
-use Rattle.cgl_num.specs.Growth.{Grown, Grows}
+use Rattle.cgl_text.specs.Growth.{Grown, Grows}
 use Rattle.cgl_deck.specs.DeckLength.{most}
 use Rattle.cgl_deck.specs.declared.output.Output.{Output}
 

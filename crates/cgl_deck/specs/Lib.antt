@@ -5,3 +5,4 @@ pub mod DeckLines
 pub mod DeckLength
 pub mod DeckOutput
 pub mod StoredDeck
+pub mod Laws

@@ -1,7 +1,7 @@
 -- What a shelf holds once the canonical text of a model was written.
 use Rattle.std.specs.Prelude.{◌≡◌, ℕ, ◌^◌, ◌≤◌, ◌⊎◌, List, length, take, Some}
 use Rattle.cgl_model.specs.declared.mip.Model.{Model}
-use Rattle.cgl_mps.specs.Decode.{Deck, decode}
+use Rattle.cgl_decode.specs.Decode.{Deck, decode}
 use Rattle.cgl_outside.specs.Shelf.{Held, file_of, with_file}
 use Rattle.cgl_deck.specs.DeckText.{deck_text}
 

@@ -1,4 +1,4 @@
-ghost use Rattle.std.specs.Prelude.{◌≡◌, ℕ, ◌+◌, ◌<◌, ◌≤◌, ◌^◌, [], ◌∷◌, ◌++◌, Some, is_some, length, map, position, sum_by, not, pos, nat_lt, nat_le, zip, IfOk, IsErrOf, MatchOption, IsSome, IsTrue, OnOk};
+ghost use Rattle.std.specs.Prelude.{◌≡◌, ℕ, ◌+◌, ◌<◌, ◌≤◌, ◌^◌, [], ◌∷◌, ◌++◌, ◌⊎◌, None, Some, is_some, length, map, position, sum_by, not, pos, nat_lt, nat_le, zip, IfOk, IsErrOf, MatchOption, IsSome, IsTrue, OnErr, OnOk};
 ghost use Rattle.std.specs.List.{list_all};
 ghost use Rattle.cgl_num.specs.Decimal.{decimal_of};
 ghost use Rattle.cgl_model.specs.Rising.{IsRising};
@@ -6,29 +6,20 @@ ghost use Rattle.cgl_deck.specs.CutNames.{cut_names};
 ghost use Rattle.cgl_deck.specs.Extended.{AreRising, IsTooMany, cut_row, decimal_or_zero, extended, extended_columns_from, is_decimal, is_known, is_within_sizes, term_count, with_rows};
 
 use crate::names::{copied_name, cut_names};
-use cgl_model::{Column, Entries, Ineq, Model, Name, Row, RowKind, Seq};
+use cgl_model::{Column, Entries, Ineq, MOST_ENTRIES, MOST_ROWS, Model, Name, Row, RowKind, Seq};
 use cgl_num::{Dec, Memory};
 use std::alloc::Global;
-use thiserror::Error;
-
-const MOST_ROWS: usize = 1 << 20;
-
-const MOST_ENTRIES: usize = 1 << 22;
 
 /// Why there is no model with these cuts as rows. Of several causes the one that stands first here is told.
-#[derive(Clone, Copy, Debug, PartialEq, Eq, Error)]
+#[derive(Clone, Copy, Debug, PartialEq, Eq)]
 pub enum ExtendError {
     /// The first cut, counted from 0, that names a column beyond the model.
-    #[error("cut {cut} names an unknown column")]
     Unknown { cut: u32 },
     /// The first cut, counted from 0, with an integer that is no decimal within the limits.
-    #[error("cut {cut} has a number out of the limits")]
     NotDec { cut: u32 },
     /// More than 2^20 rows or 2^22 entries.
-    #[error("too many rows or entries")]
     TooMany,
     /// Want of memory.
-    #[error("out of memory")]
     Memory,
 }
 
@@ -318,6 +309,7 @@ pub fn with_cuts(alloc: Global, model: &Model, cuts: &[Ineq]) -> Result<Model, E
     ensures known { (k : ℕ) → IsErrOf result (ExtendError.NotDec k) → IsTrue (list_all (is_known model.now) cuts.now) }
     ensures not_decimal { (k : ℕ) → IsErrOf result (ExtendError.NotDec k) → position (λ c. not (is_decimal c)) cuts.now ≡ Some k }
     ensures too_many { IsErrOf result ExtendError.TooMany → IsTooMany model.now cuts.now }
+    ensures refused { OnErr result (IsErrOf result ExtendError.Memory ⊎ (extended model.now cuts.now ≡ None)) }
     // so each cause that stands is answered by its own error
     ensures memory { IsErrOf result ExtendError.Memory → IsSome (extended model.now cuts.now) }
 {

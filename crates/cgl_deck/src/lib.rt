@@ -12,4 +12,4 @@ pub use extend::{ExtendError, with_cuts};
 pub use laws::{extension_laws, refusal_laws, round_trip_laws, text_laws};
 pub use names::cut_names;
 pub use store::write_deck;
-pub use write::{deck_len, deck_text};
+pub use write::deck_len;

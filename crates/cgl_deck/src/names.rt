@@ -1,5 +1,5 @@
 ghost use Rattle.std.specs.Prelude.{◌≡◌, ◌<◌, [], ◌∷◌, ◌++◌, filter, map, IfOk, OnErr, OnOk};
-ghost use Rattle.cgl_num.specs.Text.{is_one_of};
+ghost use Rattle.cgl_text.specs.Text.{is_one_of};
 ghost use Rattle.cgl_deck.specs.CutNames.{cut_name, cut_names, is_unused};
 
 use cgl_model::{Model, Name, Row, Seq};

@@ -3,7 +3,7 @@
 ghost use Rattle.std.specs.Prelude.{◌≡◌};
 ghost use Rattle.cgl_deck.specs.DeckOutput.{Longer};
 
-use cgl_num::text::Builder;
+use cgl_text::Builder;
 
 /// A text that grows by pieces: its length, which stays at the end of u64 once it reaches it, and its bytes where they
 /// are kept.

@@ -6,8 +6,8 @@ ghost use Rattle.cgl_deck.specs.DeckText.{both_text, bound_line, bound_text, col
 
 use crate::output::Output;
 use cgl_model::{Column, Model, Row, RowKind};
-use cgl_num::text::Builder;
 use cgl_num::{Dec, Memory};
+use cgl_text::Builder;
 use std::alloc::Global;
 
 // ---- numbers
@@ -302,7 +302,7 @@ fn add_deck(output: &mut Output, model: &Model)
 /// # Errors
 ///
 /// `Memory` for want of memory.
-pub fn deck_text(alloc: Global, model: &Model) -> Result<Vec<u8>, Memory>
+pub(crate) fn deck_text(alloc: Global, model: &Model) -> Result<Vec<u8>, Memory>
     ensures { IfOk result (λ text. text.items ≡ deck_text model.now) }
 {
     let mut output = Output {

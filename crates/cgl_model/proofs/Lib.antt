@@ -11,5 +11,6 @@ pub mod SideListLaws
 pub mod RowListLaws
 pub mod FormListLaws
 pub mod PlaceLaws
-pub mod AbsentLaws
-pub mod RisingLaws
+mod AbsentLaws
+mod RisingLaws
+pub mod SideOrderLaws

@@ -5,7 +5,7 @@ use Rattle.cgl_num.specs.Decimal.{Decimal, scaled}
 use Rattle.cgl_num.specs.NumberText.{Word}
 use Rattle.cgl_model.specs.declared.mip.Column.{Column}
 use Rattle.cgl_model.specs.declared.mip.Model.{Model}
-use Rattle.cgl_num.specs.Text.{is_blank, is_one_of}
+use Rattle.cgl_num.specs.Words.{is_blank, is_one_of}
 
 -- no name stands twice
 abbrev pub AreDistinct : List Word → Type 0

@@ -4,6 +4,7 @@
 mod decimals;
 mod integer_forms;
 mod laws;
+mod limits;
 mod linear;
 mod mip;
 mod places;
@@ -18,8 +19,9 @@ mod violation;
 
 pub use integer_forms::{Forms, RowForm, RowShape};
 pub use laws::{find_laws, sides_meaning};
+pub use limits::{MOST_COLUMNS, MOST_ENTRIES, MOST_ROWS};
 pub use linear::{Ineq, Terms, Wide};
 pub use mip::{Column, Entries, Model, Name, Row, RowKind};
-pub use places::{End, Place, Side};
+pub use places::{End, Place, Side, Var};
 pub use points::Point;
 pub use seq::Seq;

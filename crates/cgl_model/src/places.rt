@@ -20,3 +20,10 @@ pub struct Side {
     pub place: Place,
     pub ineq: Ineq,
 }
+
+/// A variable: a column, or the slack of a row, by its number.
+#[derive(Clone, Copy, Debug, PartialEq, Eq)]
+pub enum Var {
+    Col(u32),
+    Slack(u32),
+}

@@ -6,17 +6,17 @@ use Rattle.std.proofs.lemmas.List.{append_assoc, map-append}
 use Rattle.cgl_model.specs.declared.mip.Column.{Column}
 use Rattle.cgl_num.specs.NumberText.{Word}
 use Rattle.cgl_model.specs.declared.mip.RowKind.{RowKind}
-use Rattle.cgl_mps.specs.declared.record.Section.{Section}
-use Rattle.cgl_mps.specs.declared.record.Section.TheVariants.{Rows, Columns, Rhs, Ranges, Bounds}
-use Rattle.cgl_mps.specs.Records.{Record, field, data_in, is_kept}
-use Rattle.cgl_mps.specs.Sections.{is_marker, row_in, row_names, column_names}
-use Rattle.cgl_mps.specs.Faults.{Limits, fault_after, column_conditions, is_split}
-use Rattle.cgl_mps.specs.Models.{column_of}
-use Rattle.cgl_mps.specs.Found.{is_data_of}
+use Rattle.cgl_decode.specs.declared.kinds.Section.{Section}
+use Rattle.cgl_decode.specs.declared.kinds.Section.TheVariants.{Rows, Columns, Rhs, Ranges, Bounds}
+use Rattle.cgl_decode.specs.Records.{Record, field, data_in, is_kept}
+use Rattle.cgl_decode.specs.Sections.{is_marker, row_in, row_names, column_names}
+use Rattle.cgl_decode.specs.Faults.{Limits, fault_after, column_conditions, is_split}
+use Rattle.cgl_decode.specs.Models.{column_of}
+use Rattle.cgl_decode.specs.Found.{is_data_of}
 use Rattle.cgl_mps.specs.Carried.{ReadColumns, ReadPairs, ReadBounds, names_of, all_of, column_in, made_column, after_line, after_pairs, after_bound, IsColumns, IsPairs, IsBounds, IsCarried, splits, Adds, named_in}
-use Rattle.cgl_mps.proofs.ModelLaws.{row_names-append}
-use Rattle.cgl_mps.proofs.JudgedLaws.{NoneHolds}
-use Rattle.cgl_mps.proofs.SizeLaws.{judged_column}
+use Rattle.cgl_decode.proofs.ModelLaws.{row_names-append}
+use Rattle.cgl_decode.proofs.JudgedLaws.{NoneHolds}
+use Rattle.cgl_decode.proofs.SizeLaws.{judged_column}
 use Rattle.cgl_mps.proofs.PushLaws.{are_all, columns_in_order, pairs_in_order, bounds_in_order}
 
 lines_after : (section : Section) (records : List Record) (r : Record) (b : Bool) → is_data_of section r ≡ b → data_in section (records ++ r ∷ []) ≡ cond b (data_in section records ++ r ∷ []) (data_in section records)

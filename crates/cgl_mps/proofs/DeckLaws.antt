@@ -3,13 +3,13 @@ use Rattle.std.proofs.Common.{◌≡◌, sym, ap, ap₂, ◌∙◌, ℕ, ◌+◌
 use Rattle.std.proofs.Math.Numerals.{add-one}
 use Rattle.std.proofs.Math.Seq.{drop-cons}
 use denote.Ref.{Bor}
-use Rattle.cgl_num.specs.Seen.{words}
-use Rattle.cgl_mps.specs.declared.record.Section.{Section}
-use Rattle.cgl_mps.specs.declared.record.Section.TheVariants.{End}
-use Rattle.cgl_mps.specs.Records.{Record, record_of, section_after, same_section, is_end, kept}
-use Rattle.cgl_mps.specs.Faults.{fault_after}
-use Rattle.cgl_mps.specs.Decode.{decode, deck_limits}
-use Rattle.cgl_mps.specs.Reading.{turn, read_from}
+use Rattle.cgl_text.specs.Seen.{words}
+use Rattle.cgl_decode.specs.declared.kinds.Section.{Section}
+use Rattle.cgl_decode.specs.declared.kinds.Section.TheVariants.{End}
+use Rattle.cgl_decode.specs.Records.{Record, record_of, section_after, same_section, is_end, kept}
+use Rattle.cgl_decode.specs.Faults.{fault_after}
+use Rattle.cgl_decode.specs.Decode.{decode, deck_limits}
+use Rattle.cgl_decode.specs.Reading.{turn, read_from}
 
 lines_left : (lines : List (Bor (List ℕ))) (i : ℕ) (d : Bor (List ℕ)) → i < length lines → words (drop i lines) ≡ (slice_index_or lines i d).now ∷ words (drop (i + 1) lines)
 lines_left lines i d below = ap words (drop-cons lines i d below ∙ ap (λ n. slice_index_or lines i d ∷ drop n lines) (sym (add-one i)))

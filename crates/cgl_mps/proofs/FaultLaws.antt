@@ -3,17 +3,17 @@ use Rattle.std.proofs.Common.{◌≡◌, refl, sym, ap, ap₂, ◌∙◌, arith,
 use Rattle.std.specs.List.{list_any, cons_option}
 use denote.Ref.{Bor}
 use Rattle.cgl_num.specs.NumberText.{Word, is_number, limit}
-use Rattle.cgl_mps.specs.declared.record.BoundKind.{BoundKind}
-use Rattle.cgl_mps.specs.declared.record.BoundKind.TheVariants.{Lo, Li, Up, Ui, Fx, Fr, Mi, Pl, Bv}
-use Rattle.cgl_mps.specs.Records.{Record}
-use Rattle.cgl_mps.specs.Sections.{Pair, pairs_of, sense_in, senses, needs_value}
-use Rattle.cgl_num.specs.Text.{is_over}
-use Rattle.cgl_num.specs.Conditions.{Condition, first_kind}
-use Rattle.cgl_mps.specs.Faults.{each_pair, no_word, conditions, fault_after, takes, is_value_of}
-use Rattle.cgl_mps.specs.Decode.{deck_limits}
-use Rattle.cgl_num.specs.Seen.{words}
+use Rattle.cgl_decode.specs.declared.kinds.BoundKind.{BoundKind}
+use Rattle.cgl_decode.specs.declared.kinds.BoundKind.TheVariants.{Lo, Li, Up, Ui, Fx, Fr, Mi, Pl, Bv}
+use Rattle.cgl_decode.specs.Records.{Record}
+use Rattle.cgl_decode.specs.Sections.{Pair, pairs_of, sense_in, senses, needs_value}
+use Rattle.cgl_text.specs.Text.{is_over}
+use Rattle.cgl_text.specs.Conditions.{Condition, first_kind}
+use Rattle.cgl_decode.specs.Faults.{each_pair, no_word, conditions, fault_after, takes, is_value_of}
+use Rattle.cgl_decode.specs.Decode.{deck_limits}
+use Rattle.cgl_text.specs.Seen.{words}
 use Rattle.cgl_mps.specs.Seen.{word_at}
-use Rattle.cgl_mps.specs.Found.{has_sense}
+use Rattle.cgl_mps.proofs.Found.{has_sense}
 
 -- senses
 

@@ -6,18 +6,18 @@ use Rattle.std.proofs.lemmas.List.{map-append}
 use Rattle.std.proofs.lemmas.List.Folds.{list_any-append}
 use Rattle.std.proofs.lemmas.Grind.{flat_map-append}
 use Rattle.cgl_num.specs.NumberText.{Word}
-use Rattle.cgl_num.specs.Text.{is_one_of}
-use Rattle.cgl_mps.specs.declared.record.Section.{Section}
-use Rattle.cgl_mps.specs.declared.record.Section.TheVariants.{Bounds, Columns}
-use Rattle.cgl_mps.specs.Records.{Record, field, data_in}
-use Rattle.cgl_mps.specs.Sections.{Pair, bound_in, set_pairs, entry_pairs, is_marker, names_column, distinct, set_in, same_set, first_or, column_records}
-use Rattle.cgl_mps.specs.Found.{is_data_of}
-use Rattle.cgl_mps.specs.Models.{last_or}
+use Rattle.cgl_text.specs.Text.{is_one_of}
+use Rattle.cgl_decode.specs.declared.kinds.Section.{Section}
+use Rattle.cgl_decode.specs.declared.kinds.Section.TheVariants.{Bounds, Columns}
+use Rattle.cgl_decode.specs.Records.{Record, field, data_in}
+use Rattle.cgl_decode.specs.Sections.{Pair, bound_in, set_pairs, entry_pairs, is_marker, names_column, distinct, set_in, same_set, first_or, column_records}
+use Rattle.cgl_decode.specs.Found.{is_data_of}
+use Rattle.cgl_decode.specs.Models.{last_or}
 use Rattle.cgl_mps.specs.Carried.{ReadColumn, ReadColumns, names_of, all_of, is_current, after_marker, with_pairs, after_more, after_new, after_line, entry_lines, column_in, is_split_in, IsColumns, ReadPairs, ReadBounds, first_set, counting_set, counting_in, after_pairs, after_bound, IsPairs, IsBounds}
-use Rattle.cgl_mps.proofs.CountLaws.{distinct-push}
-use Rattle.cgl_mps.proofs.NameLaws.{is_one_of-distinct, any_column, any-filter}
-use Rattle.cgl_mps.proofs.DistinctLaws.{equal_words, same_word}
-use Rattle.cgl_mps.proofs.ModelLaws.{before_first-first}
+use Rattle.cgl_decode.proofs.CountLaws.{distinct-push}
+use Rattle.cgl_decode.proofs.NameLaws.{is_one_of-distinct, any_column, any-filter}
+use Rattle.cgl_decode.proofs.DistinctLaws.{equal_words, same_word}
+use Rattle.cgl_decode.proofs.ModelLaws.{before_first-first}
 
 -- bools
 

@@ -6,9 +6,9 @@ use Rattle.std.proofs.Math.ListN.{drop_of_length-le}
 use Rattle.std.proofs.lemmas.List.{append_assoc}
 use Rattle.std.specs.List.{list_any}
 use Rattle.cgl_num.specs.NumberText.{Word}
-use Rattle.cgl_mps.specs.Sections.{Pair}
-use Rattle.cgl_mps.specs.Models.{last_or, value_for}
-use Rattle.cgl_mps.proofs.BoundLaws.{last_or_set}
+use Rattle.cgl_decode.specs.Sections.{Pair}
+use Rattle.cgl_decode.specs.Models.{last_or, value_for}
+use Rattle.cgl_decode.proofs.BoundLaws.{last_or_set}
 
 the_rest : {X : Type 0} (xs : List X) (i : ℕ) (x : X) → i < length xs → x ≡ get_or xs i x → drop i xs ≡ x ∷ drop (i + 1) xs
 the_rest xs i x below is = drop-cons xs i x below ∙ ap (λ y. y ∷ drop (suc i) xs) (sym is) ∙ ap (λ n. x ∷ drop n xs) (sym (add-one i))

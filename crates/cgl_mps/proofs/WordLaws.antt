@@ -3,10 +3,10 @@ use Rattle.std.proofs.Common.{◌≡◌, refl, sym, ap, ◌∙◌, ℕ, List, []
 use Rattle.std.specs.Prelude.{slice_get}
 use denote.Ref.{Bor}
 use Rattle.cgl_num.specs.NumberText.{Word}
-use Rattle.cgl_num.specs.Seen.{word}
-use Rattle.cgl_mps.specs.declared.record.BoundKind.{BoundKind}
-use Rattle.cgl_mps.specs.Records.{first_word}
-use Rattle.cgl_mps.specs.Sections.{Bound, bound_in, bound_kinds, bound_with, needs_value, rest}
+use Rattle.cgl_text.specs.Seen.{word}
+use Rattle.cgl_decode.specs.declared.kinds.BoundKind.{BoundKind}
+use Rattle.cgl_decode.specs.Records.{first_word}
+use Rattle.cgl_decode.specs.Sections.{Bound, bound_in, bound_kinds, bound_with, needs_value, rest}
 use Rattle.cgl_mps.specs.Seen.{bound_kind}
 
 pub first_read : (words : List Word) → unwrap_or (slice_get words 0) [] ≡ first_word words

@@ -2,15 +2,15 @@
 use Rattle.std.specs.Prelude.{◌≡◌, ℕ, ◌+◌, Bool, false, not, ◌&&◌, ◌||◌, ◌⊎◌, if◌then◌else◌, List, [], ◌∷◌, ◌++◌, codes, bytes_eq, length, map, filter, filter_map, flat_map, Option, Some, None, unwrap_or, option_map}
 use Rattle.std.specs.List.{list_any, after_first, before_first, cons_option}
 use Rattle.cgl_num.specs.NumberText.{Word}
-use Rattle.cgl_num.specs.Text.{is_one_of}
+use Rattle.cgl_text.specs.Text.{is_one_of}
 use Rattle.cgl_model.specs.declared.mip.Column.{Column}
-use Rattle.cgl_mps.specs.declared.record.Section.{Section}
-use Rattle.cgl_mps.specs.declared.record.Section.TheVariants.{Rows, Columns, Rhs, Ranges, Bounds}
-use Rattle.cgl_mps.specs.Records.{Record, field, data_in}
-use Rattle.cgl_mps.specs.Sections.{Pair, Bound, bound_in, set_pairs, entry_pairs, is_marker, names_column, distinct, set_in, same_set, first_or, row_in, row_names}
-use Rattle.cgl_mps.specs.Faults.{is_split}
-use Rattle.cgl_mps.specs.Found.{is_data_of}
-use Rattle.cgl_mps.specs.Models.{last_or, makes_integer, bounds_of, lower_of, upper_of, entry_of}
+use Rattle.cgl_decode.specs.declared.kinds.Section.{Section}
+use Rattle.cgl_decode.specs.declared.kinds.Section.TheVariants.{Rows, Columns, Rhs, Ranges, Bounds}
+use Rattle.cgl_decode.specs.Records.{Record, field, data_in}
+use Rattle.cgl_decode.specs.Sections.{Pair, Bound, bound_in, set_pairs, entry_pairs, is_marker, names_column, distinct, set_in, same_set, first_or, row_in, row_names}
+use Rattle.cgl_decode.specs.Faults.{is_split}
+use Rattle.cgl_decode.specs.Found.{is_data_of}
+use Rattle.cgl_decode.specs.Models.{last_or, makes_integer, bounds_of, lower_of, upper_of, entry_of}
 
 -- COLUMNS
 

@@ -2,9 +2,9 @@
 use Rattle.std.specs.Prelude.{ℕ, List, [], bytes_eq, find, Option, option_map, unwrap_or, slice_get}
 use denote.Ref.{Bor}
 use Rattle.cgl_num.specs.NumberText.{Word}
-use Rattle.cgl_num.specs.Seen.{words}
-use Rattle.cgl_mps.specs.declared.record.BoundKind.{BoundKind}
-use Rattle.cgl_mps.specs.Sections.{bound_kinds}
+use Rattle.cgl_text.specs.Seen.{words}
+use Rattle.cgl_decode.specs.declared.kinds.BoundKind.{BoundKind}
+use Rattle.cgl_decode.specs.Sections.{bound_kinds}
 
 -- the word at place k, or an empty one
 abbrev pub word_at : ℕ → List (Bor (List ℕ)) → Word

@@ -2,9 +2,9 @@
 
 ghost use Rattle.std.specs.Prelude.{◌≡◌, ◌∷◌, ◌++◌, [], IfOk, OnOk, bytes_eq, filter};
 
-use crate::record::BoundKind;
+use cgl_decode::BoundKind;
 use cgl_num::Memory;
-use cgl_num::text::same_bytes;
+use cgl_text::same_bytes;
 use std::alloc::Global;
 use std::marker::Model;
 
@@ -19,8 +19,8 @@ pub struct Bound<'a> {
 
 impl<'a> Model for Bound<'a> {
     ghost use Rattle.std.specs.Prelude.{option_map};
-    ghost use Rattle.cgl_num.specs.Seen.{word};
-    ghost use Rattle.cgl_mps.specs.Sections.{Bound as Said};
+    ghost use Rattle.cgl_text.specs.Seen.{word};
+    ghost use Rattle.cgl_decode.specs.Sections.{Bound as Said};
 
     ghost Value = { Said };
 
@@ -35,7 +35,7 @@ pub(crate) struct Bounds<'a> {
 
 impl<'a> Model for Bounds<'a> {
     ghost use Rattle.std.specs.Prelude.{List};
-    ghost use Rattle.cgl_mps.specs.Sections.{Bound as Said};
+    ghost use Rattle.cgl_decode.specs.Sections.{Bound as Said};
 
     ghost Value = { List Said };
 

@@ -1,18 +1,19 @@
 //! The records so far, with what is looked for in them at hand.
 
 ghost use Rattle.std.specs.Prelude.{◌≡◌, ◌∷◌, ◌++◌, [], OnOk, false};
-ghost use Rattle.cgl_mps.specs.declared.record.Section.TheVariants.{Columns, Bounds};
-ghost use Rattle.cgl_mps.specs.Records.{data_in};
-ghost use Rattle.cgl_mps.specs.Sections.{row_names};
-ghost use Rattle.cgl_mps.specs.Found.{is_data_of};
+ghost use Rattle.cgl_decode.specs.declared.kinds.Section.TheVariants.{Columns, Bounds};
+ghost use Rattle.cgl_decode.specs.Records.{data_in};
+ghost use Rattle.cgl_decode.specs.Sections.{row_names};
+ghost use Rattle.cgl_decode.specs.Found.{is_data_of};
 ghost use Rattle.cgl_mps.specs.Carried.{Adds, HasPairs, IsBounds, IsCarried, IsColumns, IsPairs, splits};
 
 use crate::columns::ReadColumns;
-use crate::record::{Record, Section};
+use crate::record::Record;
 use crate::sections::row_in;
 use crate::sets::{ReadBounds, ReadPairs};
+use cgl_decode::Section;
 use cgl_num::Memory;
-use cgl_num::text::Names;
+use cgl_text::Names;
 use std::alloc::Global;
 use std::marker::Model;
 
@@ -36,7 +37,7 @@ pub(crate) struct Carried<'a> {
 
 impl<'a> Model for Carried<'a> {
     ghost use Rattle.std.specs.Prelude.{List};
-    ghost use Rattle.cgl_mps.specs.Records.{Record as Line};
+    ghost use Rattle.cgl_decode.specs.Records.{Record as Line};
     ghost use Rattle.cgl_mps.specs.Carried.{IsCarried};
 
     ghost Value = { List Line };

@@ -1,10 +1,10 @@
 //! The columns of the lines so far.
 
 ghost use Rattle.std.specs.Prelude.{◌≡◌, OnOk, length};
-ghost use Rattle.cgl_num.specs.Text.{is_one_of};
-ghost use Rattle.cgl_num.specs.Seen.{words};
-ghost use Rattle.cgl_mps.specs.Sections.{pairs_of};
-ghost use Rattle.cgl_mps.specs.Faults.{names_row};
+ghost use Rattle.cgl_text.specs.Text.{is_one_of};
+ghost use Rattle.cgl_text.specs.Seen.{words};
+ghost use Rattle.cgl_decode.specs.Sections.{pairs_of};
+ghost use Rattle.cgl_decode.specs.Faults.{names_row};
 ghost use Rattle.cgl_mps.specs.Carried.{after_line, after_marker, after_more, all_of, begun, is_current, no_columns, own_pairs};
 
 use crate::counts::pair_count;
@@ -12,7 +12,7 @@ use crate::pairs::Pairs;
 use crate::record::{Record, field};
 use crate::sections::{entry_fields, is_marker};
 use cgl_num::Memory;
-use cgl_num::text::{Names, same_bytes};
+use cgl_text::{Names, same_bytes};
 use std::alloc::Global;
 use std::marker::Model;
 

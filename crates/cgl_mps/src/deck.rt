@@ -1,35 +1,33 @@
 ghost use Rattle.std.specs.Prelude.{◌≡◌, ◌⊎◌, ◌∷◌, ◌++◌, [], ℕ, ◌+◌, ◌≤◌, ◌^◌, ◌&&◌, None, Some, false, length, IfErr, IfOk, OnOk};
 ghost use Rattle.cgl_model.specs.Valid.{IsValid};
-ghost use Rattle.cgl_num.specs.Seen.{words};
-ghost use Rattle.cgl_num.specs.Text.{lines_of};
-ghost use Rattle.cgl_mps.specs.Records.{is_kept, kept, record_of, section_after};
-ghost use Rattle.cgl_mps.specs.Faults.{fault_after};
-ghost use Rattle.cgl_mps.specs.Decode.{decode, deck_limits, Deck, Fault};
+ghost use Rattle.cgl_text.specs.Seen.{words};
+ghost use Rattle.cgl_text.specs.Text.{lines_of};
+ghost use Rattle.cgl_decode.specs.Records.{is_kept, kept, record_of, section_after};
+ghost use Rattle.cgl_decode.specs.Faults.{fault_after};
+ghost use Rattle.cgl_decode.specs.Decode.{decode, deck_limits, Deck, Fault};
 ghost use Rattle.cgl_mps.specs.Carried.{splits};
 
 use crate::carried::Carried;
 use crate::faults::fault_after;
 use crate::models::model_of;
-use crate::record::{Record, Section};
+use crate::record::Record;
 use crate::records::{is_kept, record_of};
+use cgl_decode::Section;
 use cgl_model::Model;
 use cgl_num::Memory;
-use cgl_num::text::Lines;
+use cgl_text::Lines;
 use std::alloc::Global;
-use thiserror::Error;
 
 /// Why a text gives no model.
-#[derive(Clone, Copy, Debug, PartialEq, Eq, Error)]
+#[derive(Clone, Copy, Debug, PartialEq, Eq)]
 pub enum DeckError {
     /// The text is no deck: its first bad line, counted from 1, and the kind of that line's first
     /// fault. The kind is 1 (an unknown header), 2 (order), 3 (fields), 4 (a number), 5 (an unknown
     /// row), 6 (an unknown column), 7 (a duplicate), 8 (a split column), 9 (unsupported), 10 (no
     /// ENDATA, at the last line's number plus 1), 11 (a line over 4,096 or a name over 255 bytes) or
     /// 12 (more than 2^30 bytes, 2^20 rows, 2^20 columns or 2^22 entries).
-    #[error("line {line} kind {kind}")]
     Fault { line: u64, kind: u8 },
     /// Memory was refused.
-    #[error("out of memory")]
     Memory,
 }
 

@@ -1,28 +1,30 @@
 //! The first fault of a line, after the records before it.
 
 ghost use Rattle.std.specs.Prelude.{◌≡◌, ◌∷◌, ◌+◌, ◌^◌, ◌≤◌, [], Some, false, length, nat_lt, not, option_map};
-ghost use Rattle.cgl_num.specs.Text.{lines_of};
-ghost use Rattle.cgl_mps.specs.Decode.{deck_limits};
-ghost use Rattle.cgl_mps.specs.declared.record.Section.TheVariants.{Sense};
-ghost use Rattle.cgl_mps.specs.Sections.{pairs_of, senses};
-ghost use Rattle.cgl_num.specs.Conditions.{first_kind};
-ghost use Rattle.cgl_mps.specs.Faults.{bound_conditions, column_conditions, columns_conditions, conditions, data_conditions, each_pair, entry_conditions, fault_after, header_conditions, is_header_form, is_long, is_marker_form, is_misplaced, is_split, is_value_of, needs, no_word, pair_conditions, rank, row_conditions, sense_conditions, set_conditions, takes, value_conditions};
-ghost use Rattle.cgl_num.specs.Seen.{word, words};
+ghost use Rattle.cgl_text.specs.Text.{lines_of};
+ghost use Rattle.cgl_decode.specs.Decode.{deck_limits};
+ghost use Rattle.cgl_decode.specs.declared.kinds.Section.TheVariants.{Sense};
+ghost use Rattle.cgl_decode.specs.Sections.{pairs_of, senses};
+ghost use Rattle.cgl_text.specs.Conditions.{first_kind};
+ghost use Rattle.cgl_decode.specs.Faults.{bound_conditions, column_conditions, columns_conditions, conditions, data_conditions, each_pair, entry_conditions, fault_after, header_conditions, is_header_form, is_long, is_marker_form, is_misplaced, is_split, is_value_of, needs, no_word, pair_conditions, rank, row_conditions, sense_conditions, set_conditions, takes, value_conditions};
+ghost use Rattle.cgl_text.specs.Seen.{word, words};
 ghost use Rattle.cgl_mps.specs.Carried.{HasPairs};
 
 use crate::bound::Bound;
 use crate::carried::Carried;
-use crate::counts::{MOST_COLUMNS, MOST_ROWS, is_full_of_entries};
+use crate::counts::is_full_of_entries;
 use crate::names::{bound_counts, counts_after, has_entry, has_row, is_new_column, is_split};
 use crate::numbers::{limit_of, number};
-use crate::record::{BoundKind, Record, Section, field};
+use crate::record::{Record, field};
 use crate::records::is_kept;
 use crate::sections::{
     bound_in, entry_fields, has_header, is_marker, is_sense, names_row, needs_value, row_in,
     sense_in, set_fields, word_at,
 };
-use cgl_num::text::{is_over, same_bytes};
+use cgl_decode::{BoundKind, Section};
+use cgl_model::{MOST_COLUMNS, MOST_ROWS};
 use cgl_num::{Limit, is_number_text};
+use cgl_text::{is_over, same_bytes};
 
 fn is_long(name: &[u8]) -> bool
     ensures { result ≡ is_long name.now }
@@ -349,7 +351,7 @@ fn is_value_of(kind: BoundKind, value: Option<&[u8]>) -> bool
     }
 }
 
-#[tactic(auto, using(crate::proofs::NameLaws::lacked))]
+#[tactic(auto, using(cgl_decode::proofs::NameLaws::lacked))]
 fn value_fault(before: &Carried, counts: bool, bound: &Bound) -> Option<u8>
     ensures { result ≡ first_kind (value_conditions before.now counts (Some bound.now)) }
 {

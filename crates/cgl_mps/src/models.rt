@@ -2,19 +2,20 @@
 
 ghost use Rattle.std.specs.Prelude.{◌≡◌, IfOk, [], ◌∷◌, codes, filter_map, option_map};
 ghost use Rattle.std.specs.List.{list_any};
-ghost use Rattle.cgl_num.specs.Text.{is_one_of};
-ghost use Rattle.cgl_mps.specs.Sections.{senses};
-ghost use Rattle.cgl_mps.specs.Models.{last_or, name_in, model_of};
-ghost use Rattle.cgl_num.specs.Seen.{word};
+ghost use Rattle.cgl_text.specs.Text.{is_one_of};
+ghost use Rattle.cgl_decode.specs.Sections.{senses};
+ghost use Rattle.cgl_decode.specs.Models.{last_or, name_in, model_of};
+ghost use Rattle.cgl_text.specs.Seen.{word};
 
 use crate::carried::Carried;
 use crate::models_columns::columns_of;
 use crate::models_rows::rows_of;
-use crate::record::{Record, Section};
+use crate::record::Record;
 use crate::sections::sense_in;
+use cgl_decode::Section;
 use cgl_model::{Model, Name, Seq};
 use cgl_num::Memory;
-use cgl_num::text::same_bytes;
+use cgl_text::same_bytes;
 use std::alloc::Global;
 
 /// A copy of the bytes.
@@ -64,7 +65,7 @@ fn maximises(records: &[Record]) -> bool
 }
 
 /// The model of a deck without faults, from its records that have fields.
-#[tactic(auto, unfolding(crate::specs::Models::model_of))]
+#[tactic(auto, unfolding(cgl_decode::specs::Models::model_of))]
 pub(crate) fn model_of(alloc: Global, before: &Carried) -> Result<Model, Memory>
     ensures { IfOk result (λ m. m ≡ model_of before.now) }
 {

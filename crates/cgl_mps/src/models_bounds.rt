@@ -3,11 +3,11 @@
 ghost use Rattle.std.specs.Prelude.{◌≡◌, ◌&&◌, pos, if◌then◌else◌, None, Some};
 ghost use Rattle.std.specs.List.{list_any};
 ghost use Rattle.cgl_num.specs.NumberText.{whole};
-ghost use Rattle.cgl_mps.specs.Models.{makes_integer, lower_by, upper_by, is_upper, value_in, is_below_zero, lower_of, upper_of};
+ghost use Rattle.cgl_decode.specs.Models.{makes_integer, lower_by, upper_by, is_upper, value_in, is_below_zero, lower_of, upper_of};
 
 use crate::bound::Bound;
 use crate::numbers::limit_of;
-use crate::record::BoundKind;
+use cgl_decode::BoundKind;
 use cgl_num::{Dec, Limit};
 
 #[tactic(auto, unfolding(cgl_num::specs::Decimal::decimal_of))]
@@ -96,7 +96,7 @@ fn lower_unset(bounds: &[Bound]) -> Option<Dec>
     Some(zero())
 }
 
-#[tactic(auto, using(crate::proofs::BoundLaws::last_or_set))]
+#[tactic(auto, using(cgl_decode::proofs::BoundLaws::last_or_set))]
 pub(crate) fn lower_of(bounds: &[Bound]) -> Option<Dec>
     ensures { result ≡ lower_of bounds.now }
 {
@@ -107,7 +107,7 @@ pub(crate) fn lower_of(bounds: &[Bound]) -> Option<Dec>
     lower
 }
 
-#[tactic(auto, using(crate::proofs::BoundLaws::last_or_set))]
+#[tactic(auto, using(cgl_decode::proofs::BoundLaws::last_or_set))]
 pub(crate) fn upper_of(bounds: &[Bound]) -> Option<Dec>
     ensures { result ≡ upper_of bounds.now }
 {

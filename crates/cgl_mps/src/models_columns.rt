@@ -1,8 +1,8 @@
 //! The columns that the records of a deck mean.
 
 ghost use Rattle.std.specs.Prelude.{◌≡◌, IfOk, map, filter_map};
-ghost use Rattle.cgl_mps.specs.Sections.{column_names};
-ghost use Rattle.cgl_mps.specs.Models.{column_of, entry_of};
+ghost use Rattle.cgl_decode.specs.Sections.{column_names};
+ghost use Rattle.cgl_decode.specs.Models.{column_of, entry_of};
 ghost use Rattle.cgl_mps.specs.Carried.{made_column};
 
 use crate::carried::Carried;
@@ -13,7 +13,7 @@ use crate::numbers::number;
 use crate::pairs::Pair;
 use cgl_model::{Column, Entries, Seq};
 use cgl_num::Memory;
-use cgl_num::text::Names;
+use cgl_text::Names;
 use std::alloc::Global;
 
 fn entries_of(alloc: Global, names: &Names, pairs: &[Pair]) -> Result<Entries, Memory>

@@ -1,16 +1,16 @@
 //! The rows that the records of a deck mean.
 
 ghost use Rattle.std.specs.Prelude.{◌≡◌, IfOk, map};
-ghost use Rattle.cgl_mps.specs.Sections.{rows, counting_pairs};
-ghost use Rattle.cgl_mps.specs.Models.{value_at, row_of};
+ghost use Rattle.cgl_decode.specs.Sections.{rows, counting_pairs};
+ghost use Rattle.cgl_decode.specs.Models.{value_at, row_of};
 ghost use Rattle.cgl_mps.specs.Carried.{HasPairs};
 
 use crate::carried::Carried;
 use crate::models::copied_name;
 use crate::models_bounds::zero;
 use crate::numbers::number;
-use crate::record::Section;
 use crate::sections::row_in;
+use cgl_decode::Section;
 use cgl_model::{Row, RowKind, Seq};
 use cgl_num::{Dec, Memory};
 use std::alloc::Global;

@@ -1,14 +1,15 @@
 //! Rows, columns and pairs among the records.
 
 ghost use Rattle.std.specs.Prelude.{◌≡◌, false};
-ghost use Rattle.cgl_num.specs.Text.{is_one_of};
-ghost use Rattle.cgl_mps.specs.declared.record.Section.TheVariants.{Bounds};
-ghost use Rattle.cgl_mps.specs.Sections.{counts_after, row_names};
-ghost use Rattle.cgl_mps.specs.Faults.{is_new_column, is_split, names_row, pairs_of_column};
+ghost use Rattle.cgl_text.specs.Text.{is_one_of};
+ghost use Rattle.cgl_decode.specs.declared.kinds.Section.TheVariants.{Bounds};
+ghost use Rattle.cgl_decode.specs.Sections.{counts_after, row_names};
+ghost use Rattle.cgl_decode.specs.Faults.{is_new_column, is_split, names_row, pairs_of_column};
 ghost use Rattle.cgl_mps.specs.Carried.{HasPairs};
 
 use crate::carried::Carried;
-use crate::record::{Record, Section};
+use crate::record::Record;
+use cgl_decode::Section;
 
 /// Whether a row has the name.
 pub(crate) fn has_row(before: &Carried, name: &[u8]) -> bool

@@ -2,7 +2,7 @@
 
 ghost use Rattle.std.specs.Prelude.{◌≡◌, [], option_map, unwrap_or};
 ghost use Rattle.cgl_num.specs.NumberText.{limit, number};
-ghost use Rattle.cgl_num.specs.Seen.{word};
+ghost use Rattle.cgl_text.specs.Seen.{word};
 
 use cgl_num::{Dec, Limit};
 

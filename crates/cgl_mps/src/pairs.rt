@@ -1,13 +1,13 @@
 //! Pairs of row and value.
 
 ghost use Rattle.std.specs.Prelude.{◌≡◌, ◌++◌, [], OnOk, option_map};
-ghost use Rattle.cgl_mps.specs.Sections.{pairs_of};
-ghost use Rattle.cgl_mps.specs.Faults.{names_row};
-ghost use Rattle.cgl_num.specs.Seen.{word, words};
-ghost use Rattle.cgl_mps.specs.Models.{value_for};
+ghost use Rattle.cgl_decode.specs.Sections.{pairs_of};
+ghost use Rattle.cgl_decode.specs.Faults.{names_row};
+ghost use Rattle.cgl_text.specs.Seen.{word, words};
+ghost use Rattle.cgl_decode.specs.Models.{value_for};
 
 use cgl_num::Memory;
-use cgl_num::text::same_bytes;
+use cgl_text::same_bytes;
 use std::alloc::Global;
 use std::marker::Model;
 
@@ -18,7 +18,7 @@ pub(crate) struct Pair<'a> {
 }
 
 impl<'a> Model for Pair<'a> {
-    ghost use Rattle.cgl_mps.specs.Sections.{Pair as Said};
+    ghost use Rattle.cgl_decode.specs.Sections.{Pair as Said};
 
     ghost Value = { Said };
 
@@ -33,7 +33,7 @@ pub(crate) struct Pairs<'a> {
 
 impl<'a> Model for Pairs<'a> {
     ghost use Rattle.std.specs.Prelude.{List};
-    ghost use Rattle.cgl_mps.specs.Sections.{Pair as Said};
+    ghost use Rattle.cgl_decode.specs.Sections.{Pair as Said};
 
     ghost Value = { List Said };
 
@@ -65,7 +65,7 @@ impl<'a> Pairs<'a> {
     }
 
     /// Whether a pair names the row.
-    #[tactic(auto, using(crate::proofs::ModelLaws::row_named))]
+    #[tactic(auto, using(cgl_decode::proofs::ModelLaws::row_named))]
     pub(crate) fn has(&self, row: &[u8]) -> bool
         ensures { result ≡ names_row self.now row.now }
     {

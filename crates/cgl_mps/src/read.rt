@@ -4,14 +4,14 @@ ghost use Rattle.std.specs.Prelude.{◌≡◌, ◌⊎◌, ◌+◌, ◌≤◌, �
 ghost use Rattle.cgl_outside.specs.Shelf.{Lacks, Rose};
 ghost use Rattle.cgl_model.specs.Valid.{IsValid};
 ghost use Rattle.cgl_model.specs.HasDecimals.{HasDecimals};
-ghost use Rattle.cgl_mps.specs.Decode.{decode, Deck, Fault};
-ghost use Rattle.cgl_mps.specs.DeckResult.{deck_result};
+ghost use Rattle.cgl_decode.specs.Decode.{decode, Deck, Fault};
+ghost use Rattle.cgl_decode.specs.DeckResult.{deck_result};
 ghost use Rattle.cgl_outside.specs.Means.{Means, MeansFault};
 
 use crate::deck::{DeckError, deck_of};
 use cgl_model::Model;
-use cgl_num::text::MOST_BYTES;
 use cgl_outside::{FetchError, ReadError, Shelf, read_front};
+use cgl_text::MOST_BYTES;
 use std::alloc::Global;
 
 /// The model that the deck of these bytes means.

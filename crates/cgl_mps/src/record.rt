@@ -1,63 +1,9 @@
 ghost use Rattle.std.specs.Prelude.{◌≡◌, map};
-ghost use Rattle.cgl_mps.specs.Records.{place, same_section, field};
+ghost use Rattle.cgl_decode.specs.Records.{field};
 
 use crate::sections::word_at;
+use cgl_decode::Section;
 use std::marker::Model;
-
-/// The section in which a line stands.
-#[derive(Clone, Copy)]
-pub enum Section {
-    Start,
-    Name,
-    Sense,
-    Rows,
-    Columns,
-    Rhs,
-    Ranges,
-    Bounds,
-    End,
-    Unsupported,
-    Unknown,
-}
-
-impl Section {
-    fn place(self) -> u8
-        ensures { result ≡ place self }
-    {
-        match self {
-            Section::Start => 0,
-            Section::Name => 1,
-            Section::Sense => 2,
-            Section::Rows => 3,
-            Section::Columns => 4,
-            Section::Rhs => 5,
-            Section::Ranges => 6,
-            Section::Bounds => 7,
-            Section::End => 8,
-            Section::Unsupported => 9,
-            Section::Unknown => 10,
-        }
-    }
-
-    pub(crate) fn is(self, other: Section) -> bool
-        ensures { result ≡ same_section self other }
-    {
-        self.place() == other.place()
-    }
-}
-
-#[derive(Clone, Copy)]
-pub enum BoundKind {
-    Lo,
-    Li,
-    Up,
-    Ui,
-    Fx,
-    Fr,
-    Mi,
-    Pl,
-    Bv,
-}
 
 /// A line of a deck with its section and its fields. A line that is ignored has no fields.
 #[derive(Drop)]
@@ -71,7 +17,7 @@ pub struct Record<'a> {
 
 impl<'a> Model for Record<'a> {
     ghost use Rattle.std.specs.Prelude.{map};
-    ghost use Rattle.cgl_mps.specs.Records.{Record as Line};
+    ghost use Rattle.cgl_decode.specs.Records.{Record as Line};
 
     ghost Value = { Line };
 

@@ -1,14 +1,15 @@
 //! Lines of a deck as records.
 
 ghost use Rattle.std.specs.Prelude.{◌≡◌, IfOk, if◌then◌else◌};
-ghost use Rattle.cgl_num.specs.Text.{is_one_of};
-ghost use Rattle.cgl_num.specs.Seen.{words};
-ghost use Rattle.cgl_mps.specs.Records.{first_word, is_kept, record_of, section_after, section_named, unsupported};
+ghost use Rattle.cgl_text.specs.Text.{is_one_of};
+ghost use Rattle.cgl_text.specs.Seen.{words};
+ghost use Rattle.cgl_decode.specs.Records.{first_word, is_kept, record_of, section_after, section_named, unsupported};
 
-use crate::record::{Record, Section};
+use crate::record::Record;
 use crate::sections::word_at;
+use cgl_decode::Section;
 use cgl_num::Memory;
-use cgl_num::text::{begins_blank, kept_fields, same_bytes};
+use cgl_text::{begins_blank, kept_fields, same_bytes};
 use std::alloc::Global;
 
 fn is_unsupported(name: &[u8]) -> bool

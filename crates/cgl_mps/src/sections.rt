@@ -1,17 +1,18 @@
 //! What one record, or a list of records, says.
 
 ghost use Rattle.std.specs.Prelude.{◌≡◌, ◌≤◌, length, option_map};
-ghost use Rattle.cgl_num.specs.Text.{is_one_of};
-ghost use Rattle.cgl_mps.specs.Records.{has_header};
-ghost use Rattle.cgl_mps.specs.Sections.{sense_names, sense_in, row_kind, row_in, is_marker, pairs_of, rest, entry_pairs, set_pairs, needs_value, bound_with, bound_in, set_in, same_set};
-ghost use Rattle.cgl_mps.specs.Faults.{names_row};
-ghost use Rattle.cgl_num.specs.Seen.{word, words};
+ghost use Rattle.cgl_text.specs.Text.{is_one_of};
+ghost use Rattle.cgl_decode.specs.Records.{has_header};
+ghost use Rattle.cgl_decode.specs.Sections.{sense_names, sense_in, row_kind, row_in, is_marker, pairs_of, rest, entry_pairs, set_pairs, needs_value, bound_with, bound_in, set_in, same_set};
+ghost use Rattle.cgl_decode.specs.Faults.{names_row};
+ghost use Rattle.cgl_text.specs.Seen.{word, words};
 ghost use Rattle.cgl_mps.specs.Seen.{word_at, bound_kind};
 
 use crate::bound::Bound;
-use crate::record::{BoundKind, Record, Section, field};
+use crate::record::{Record, field};
+use cgl_decode::{BoundKind, Section};
 use cgl_model::RowKind;
-use cgl_num::text::same_bytes;
+use cgl_text::same_bytes;
 
 /// Whether the section's header stands among the records.
 pub(crate) fn has_header(section: Section, records: &[Record]) -> bool

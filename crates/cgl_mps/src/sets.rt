@@ -1,15 +1,16 @@
 //! The lines so far of RHS, of RANGES and of BOUNDS: the set of the first, and what counts.
 
 ghost use Rattle.std.specs.Prelude.{◌≡◌, None, [], OnOk, option_map};
-ghost use Rattle.cgl_mps.specs.declared.record.Section.TheVariants.{Bounds as BoundLines};
-ghost use Rattle.cgl_mps.specs.Sections.{same_set, set_in};
-ghost use Rattle.cgl_num.specs.Seen.{word};
+ghost use Rattle.cgl_decode.specs.declared.kinds.Section.TheVariants.{Bounds as BoundLines};
+ghost use Rattle.cgl_decode.specs.Sections.{same_set, set_in};
+ghost use Rattle.cgl_text.specs.Seen.{word};
 ghost use Rattle.cgl_mps.specs.Carried.{after_bound, after_pairs, counting_set};
 
 use crate::bound::Bounds;
 use crate::pairs::Pairs;
-use crate::record::{Record, Section};
+use crate::record::Record;
 use crate::sections::{bound_in, same_set, set_fields, set_in};
+use cgl_decode::Section;
 use cgl_num::Memory;
 use std::alloc::Global;
 use std::marker::Model;
@@ -34,7 +35,7 @@ pub(crate) struct ReadPairs<'a> {
 
 impl<'a> Model for ReadPairs<'a> {
     ghost use Rattle.std.specs.Prelude.{option_map};
-    ghost use Rattle.cgl_num.specs.Seen.{word};
+    ghost use Rattle.cgl_text.specs.Seen.{word};
     ghost use Rattle.cgl_mps.specs.Carried.{ReadPairs as Said};
 
     ghost Value = { Said };
@@ -90,7 +91,7 @@ pub(crate) struct ReadBounds<'a> {
 
 impl<'a> Model for ReadBounds<'a> {
     ghost use Rattle.std.specs.Prelude.{option_map};
-    ghost use Rattle.cgl_num.specs.Seen.{word};
+    ghost use Rattle.cgl_text.specs.Seen.{word};
     ghost use Rattle.cgl_mps.specs.Carried.{ReadBounds as Said};
 
     ghost Value = { Said };

@@ -14,8 +14,3 @@ pub mod OrderLaws
 pub mod OverflowLaws
 pub mod ReadBackLaws
 pub mod TotalOrderLaws
-pub mod TextLaws
-pub mod NameLaws
-pub mod FrontLaws
-pub mod RecordLaws
-pub mod GrowthLaws

@@ -5,7 +5,4 @@ pub mod FractionOrder
 pub mod Decimal
 pub mod NumberText
 pub mod IntegerLaws
-pub mod Text
-pub mod Seen
-pub mod Conditions
-pub mod Growth
+pub mod Words

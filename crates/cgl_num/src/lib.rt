@@ -1,4 +1,4 @@
-//! Exact fractions and decimals within 128 bits, and the texts that carry them.
+//! Exact fractions and decimals within 128 bits, and their texts.
 #![tactic(auto)]
 
 mod arithmetic;
@@ -10,7 +10,6 @@ mod laws;
 mod laws_decimal;
 mod number_text;
 mod order;
-pub mod text;
 
 pub use arithmetic::{Op, Overflow};
 pub use decimal::Dec;

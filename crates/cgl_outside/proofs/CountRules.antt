@@ -1,7 +1,7 @@
 -- What a result says, case by case, and the counts of failed calls.
 use Rattle.std.proofs.Common.{Bool, true, false, IsTrue, ◌≡◌, ◌⊎◌, inl, inr, ℕ, List, ◌≤◌, Result, Ok, Err, OnOk, OnErr, Option, Some, None, IsSome, arith, refl}
 use Rattle.std.specs.Option.{IsNone, is_some}
-use Rattle.cgl_outside.specs.Shelf.{Files, Held, file_of, Lacks, Counts, risen}
+use Rattle.cgl_outside.specs.Shelf.{Files, Held, file_of, Lacks, Counts, Rose, risen}
 
 pub each_ok : {T E A : Type 0} (result : Result T E) → A → OnOk result A
 each_ok (Ok value) a = a
@@ -53,11 +53,19 @@ no_fault before now same = record { later = same_later before now same; ok = sam
 
 -- the call failed, and no file was lacking
 pub one_fault : {T E : Type 0} {error : E} {excuse : Type 0} (before now : ℕ) → now ≡ risen before → (excuse → ⊥) → Counts {T = T} {E = E} before now (Err error) excuse
-one_fault before now rose never = record { later = rw rose (rises before); ok = tt; failed = inl (same_later (risen before) now rose); excused = λ e. absurd (never e) }
+one_fault before now rose never = record { later = rw rose (rises before); ok = tt; failed = inl rose; excused = λ e. absurd (never e) }
 
 -- the file was lacking
 pub excused : {T E : Type 0} {error : E} {excuse : Type 0} (before now : ℕ) → now ≡ before → excuse → Counts {T = T} {E = E} before now (Err error) excuse
 excused before now same is = record { later = same_later before now same; ok = tt; failed = inr is; excused = λ _. same }
+
+-- a count with one more rose
+rose_once : (before now : ℕ) → now ≡ risen before → Rose before now
+rose_once before now once = same_later (risen before) now once
+
+pub rose_or : {excuse : Type 0} (before now : ℕ) → (now ≡ risen before) ⊎ excuse → Rose before now ⊎ excuse
+rose_or before now (inl once) = inl (rose_once before now once)
+rose_or before now (inr is) = inr is
 
 -- a call that is listed keeps some number of bytes
 pub keeps : (fault : Option ℕ) → is_some fault ≡ true → (keep : ℕ) × (fault ≡ Some keep)

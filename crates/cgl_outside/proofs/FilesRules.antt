@@ -7,7 +7,7 @@ use Rattle.std.specs.Cmp.Lexicographic.{slice_cmp}
 use Rattle.std.specs.FinMap.{empty, from_entries, get, insert, get-insert, get_tied, same_map, slice_cmp-IsAntisymmetric, nat_cmp-IsAntisymmetric}
 use Rattle.std.proofs.lemmas.Cmp.{nat_list_cmp_total}
 use Rattle.std.specs.Option.{option_map_or}
-use Rattle.cgl_outside.specs.Shelf.{Files, IsPiece, file_of, with_file, with_more}
+use Rattle.cgl_outside.specs.Shelf.{Files, IsLongestPiece, IsPiece, file_of, with_file, with_more}
 use Rattle.std.specs.Option.{option_map}
 use Rattle.std.specs.BTreeMap.{get_by_text}
 use Rattle.cgl_outside.specs.Files.{Tree, entry_of, files_of}
@@ -45,6 +45,9 @@ same_files m n e = ap (λ es. from_entries (map entry_of es)) e
 
 pub read_piece : (bytes file buf : List ℕ) (at n : ℕ) → ◌≡◌ {A = Option (List ℕ)} (Some file) (Some bytes) → IsPiece file at buf n → IsPiece bytes at buf n
 read_piece bytes file buf at n e p = let P : Option (List ℕ) → Type 0 = λ o. IsPiece (unwrap_or o []) at buf n in subst P e p
+
+pub longest_piece : (bytes file buf now : List ℕ) (at n : ℕ) → ◌≡◌ {A = Option (List ℕ)} (Some file) (Some bytes) → IsLongestPiece file at buf now n → IsLongestPiece bytes at buf now n
+longest_piece bytes file buf now at n e p = let P : Option (List ℕ) → Type 0 = λ o. IsLongestPiece (unwrap_or o []) at buf now n in subst P e p
 
 -- nothing was added: no byte of the piece is kept
 kept_nothing : (files : Files) (name : List ℕ) (o : Option (List ℕ)) → get files name ≡ o → option_map_or (λ x. Some (insert files name (x ++ []))) o (Some files) ≡ Some files

@@ -1,5 +1,5 @@
 -- What a file that was read means.
-use Rattle.std.specs.Prelude.{◌≡◌, ℕ, List, Some, IsSome, Result, Err}
+use Rattle.std.specs.Prelude.{◌≡◌, ℕ, List, Some, IsSome, Result, Ok, Err}
 use Rattle.cgl_outside.specs.Shelf.{Held, file_of}
 use Rattle.cgl_outside.specs.declared.errors.ReadError.{ReadError}
 use Rattle.cgl_outside.specs.declared.errors.ReadError.TheVariants.{Fault, ReadFault, Memory}
@@ -15,3 +15,17 @@ abbrev pub MeansFault : {A : Type 0} → Held → List ℕ → (List ℕ → Res
 MeansFault held name meaning (Fault line kind) = Means held name meaning (Err (line, kind))
 MeansFault held name meaning ReadFault = Unit {0}
 MeansFault held name meaning Memory = Unit {0}
+
+-- the file's bytes mean this
+abbrev pub IsRead : {A : Type 0} → Held → List ℕ → (List ℕ → Result A (ℕ × ℕ)) → A → Type 0
+IsRead held name meaning a = Means held name meaning (Ok a)
+
+-- the file's bytes have this fault
+abbrev pub IsFaulty : {A : Type 0} → Held → List ℕ → (List ℕ → Result A (ℕ × ℕ)) → ℕ → ℕ → Type 0
+IsFaulty held name meaning line kind = Means held name meaning (Err (line, kind))
+
+-- the file is there, and its bytes mean this
+pub record Holds {A : Type 0} (held : Held) (name : List ℕ) (meaning : List ℕ → Result A (ℕ × ℕ)) (a : A) : Type 0 where
+  pub text : List ℕ
+  pub there : file_of held name ≡ Some text
+  pub means : meaning text ≡ Ok a

@@ -1,4 +1,4 @@
-//! The errors of what reads and writes files.
+//! The errors of what reads and writes files. No clause speaks of the texts that they display.
 use thiserror::Error;
 
 /// What stops a reader of a file's bytes.

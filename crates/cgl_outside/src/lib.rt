@@ -1,5 +1,6 @@
 //! Named files and outputs: the two traits that the programs stand on, both in memory with faults
-//! where a test wants them, and both over the system.
+//! where a test wants them, and both over the system; and the words in which a program says what it
+//! does with them, a script of steps and what came of it.
 #![tactic(auto)]
 
 mod edge;

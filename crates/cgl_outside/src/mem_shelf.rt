@@ -3,7 +3,7 @@ ghost use Rattle.std.specs.Prelude.{◌≡◌, ◌≤◌, ◌<◌, ◌⊎◌, Li
 ghost use Rattle.std.specs.Option.{option_copied};
 ghost use Rattle.std.specs.FinMap as map;
 ghost use Rattle.cgl_outside.specs.MemShelf.{next_read, next_create, next_append, with_read, with_create, with_append, with_read_fault, with_write_fault, with_write_refused, KeepsFront};
-ghost use Rattle.cgl_outside.specs.Shelf.{IsPiece, Lacks, Counts, file_of, with_file, with_more};
+ghost use Rattle.cgl_outside.specs.Shelf.{IsPiece, IsLongestPiece, Lacks, Counts, file_of, with_file, with_more};
 
 use crate::fail::{begin, kept};
 use crate::store::{copy_piece, extend, look_up, put};
@@ -16,8 +16,9 @@ use std::marker::Model;
 /// Files in memory, and the faults that are listed for them. A growth that is refused is a fault of
 /// its call.
 ///
-/// A call that the list makes fail raises its count, but for a read or an append of a file that is
-/// not there. A read or a create that fails changes no file.
+/// A call that the list makes fail raises its count by one, but for a read or an append of a file
+/// that is not there. A read or a create that fails changes no file. A read gives as many bytes as
+/// the buffer and the rest of the file allow.
 #[derive(Drop)]
 pub struct MemShelf {
     alloc: Global,
@@ -120,6 +121,8 @@ impl Shelf for MemShelf {
         requires { 0 < length buf.old }
         ensures within { IfOk result (λ n. n ≤ length buf.new) }
         ensures piece { IfOk result (λ n. (bytes : List ℕ) → file_of (Some self.old.files) name.now ≡ Some bytes → IsPiece bytes at buf.new n) }
+        ensures longest { IfOk result (λ n. (bytes : List ℕ) → file_of (Some self.old.files) name.now ≡ Some bytes → IsLongestPiece bytes at buf.old buf.new n) }
+        ensures untouched { OnErr result (buf.new ≡ buf.old) }
         ensures found { OnOk result (IsSome (Some self.old.files) → IsSome (file_of (Some self.old.files) name.now)) }
         ensures held { Some self.new.files ≡ Some self.old.files }
         ensures reads { Counts self.old.failed_reads self.new.failed_reads result (Lacks (Some self.old.files) name.now) }

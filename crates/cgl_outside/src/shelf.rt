@@ -10,9 +10,9 @@ pub struct Failed;
 /// A name is text, and a file is bytes. A shelf may tell its files to proofs. Clauses on content
 /// hold where it does. Whether it tells never changes.
 ///
-/// A call fails only where the count of failed calls of its kind rose in it, or where a file that
-/// is read or appended to is not there: then the counts stay. A count never falls, and a count at
-/// the end of its type, 2^64 - 1, stands still.
+/// A call fails only where the count of failed calls of its kind rose by one in it, or where a file
+/// that is read or appended to is not there: then the counts stay. A count never falls, and a count
+/// at the end of its type, 2^64 - 1, stands still.
 pub trait Shelf {
     /// The files, where the shelf tells them.
     ghost held: { Self → Held };

@@ -7,7 +7,7 @@ use crate::Failed;
 /// An output that bytes are put on, in pieces.
 ///
 /// An output may tell its bytes to proofs, and whether it tells never changes. A put fails only
-/// where the count of faults rose in it, or stands at the end of its type, 2^64 - 1.
+/// where the count of faults rose by one in it, or stands at the end of its type, 2^64 - 1.
 pub trait Sink {
     /// The bytes that it got, where it tells them.
     ghost written: { Self → Option (List ℕ) };

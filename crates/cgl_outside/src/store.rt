@@ -2,7 +2,7 @@
 ghost use Rattle.std.specs.Prelude.{◌≡◌, ◌<◌, ◌≤◌, ◌↔◌, length, IfOk, OnOk, OnErr, IsSome, IsTrue, Some, false};
 ghost use Rattle.std.specs.Option.{option_copied};
 ghost use Rattle.std.specs.FinMap as map;
-ghost use Rattle.cgl_outside.specs.Shelf.{IsPiece, with_more};
+ghost use Rattle.cgl_outside.specs.Shelf.{IsPiece, IsLongestPiece, with_more};
 ghost use Rattle.cgl_outside.specs.Files.{files_of};
 
 use cgl_num::Memory;
@@ -62,11 +62,13 @@ pub(crate) fn look_up<'a>(files: &'a BTreeMap<String, Vec<u8>>, name: &str) -> O
     }
 }
 
-/// Copies what stands in a file from a place on, as far as the buffer goes.
+/// Copies what stands in a file from a place on, as far as the buffer goes. What stands behind it in the
+/// buffer stays.
 pub(crate) fn copy_piece(file: &[u8], at: u64, buf: &mut [u8]) -> usize
     requires { 0 < length buf.old }
     ensures within { result ≤ length buf.new }
     ensures piece { IsPiece file.now at buf.new result }
+    ensures longest { IsLongestPiece file.now at buf.old buf.new result }
 {
     if at >= file.len() as u64 {
         return 0;

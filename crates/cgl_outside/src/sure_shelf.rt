@@ -2,7 +2,7 @@
 ghost use Rattle.std.specs.Prelude.{◌≡◌, ◌≤◌, ◌<◌, ◌⊎◌, List, ℕ, [], length, take, OnOk, OnErr, IfOk, IsSome, Some};
 ghost use Rattle.std.specs.Option.{option_copied};
 ghost use Rattle.std.specs.FinMap as map;
-ghost use Rattle.cgl_outside.specs.Shelf.{IsPiece, Lacks, Counts, file_of, with_file, with_more};
+ghost use Rattle.cgl_outside.specs.Shelf.{IsPiece, IsLongestPiece, Lacks, Counts, file_of, with_file, with_more};
 ghost use Rattle.cgl_outside.specs.SureShelf.{with_refusal};
 
 use crate::store::{copy_piece, extend, look_up, put};
@@ -13,7 +13,8 @@ use std::collections::BTreeMap;
 use std::marker::Model;
 
 /// Files in memory. A read fails only where there is no such file, a create only where memory is
-/// refused, and an append only for either cause.
+/// refused, and an append only for either cause. A read gives as many bytes as the buffer and the
+/// rest of the file allow.
 #[derive(Drop)]
 pub struct SureShelf {
     alloc: Global,
@@ -85,6 +86,8 @@ impl Shelf for SureShelf {
         requires { 0 < length buf.old }
         ensures within { IfOk result (λ n. n ≤ length buf.new) }
         ensures piece { IfOk result (λ n. (bytes : List ℕ) → file_of (Some self.old.files) name.now ≡ Some bytes → IsPiece bytes at buf.new n) }
+        ensures longest { IfOk result (λ n. (bytes : List ℕ) → file_of (Some self.old.files) name.now ≡ Some bytes → IsLongestPiece bytes at buf.old buf.new n) }
+        ensures untouched { OnErr result (buf.new ≡ buf.old) }
         ensures found { OnOk result (IsSome (Some self.old.files) → IsSome (file_of (Some self.old.files) name.now)) }
         ensures lacking { OnErr result (Lacks (Some self.old.files) name.now) }
         ensures same { self.new ≡ self.old }

@@ -16,18 +16,18 @@ use Rattle.cgl_num.specs.Fraction.{Fraction}
 use Rattle.cgl_num.specs.NumberText.{Word}
 use Rattle.cgl_model.specs.declared.mip.Column.{Column}
 use denote.Ref.{Bor}
-use Rattle.cgl_num.specs.Text.{lines_of, kept_fields, no_field, is_over, most_bytes}
+use Rattle.cgl_text.specs.Text.{lines_of, kept_fields, no_field, is_over, most_bytes}
 use Rattle.cgl_where.proofs.ValueLaws.{some_left}
 use Rattle.cgl_model.specs.declared.mip.Model.{Model}
 use Rattle.cgl_model.specs.Point.{Point}
 use Rattle.cgl_where.specs.Reading.{read_from}
-use Rattle.cgl_num.specs.Seen.{words}
-use Rattle.cgl_num.proofs.NameLaws.{is_found}
+use Rattle.cgl_text.specs.Seen.{words}
+use Rattle.cgl_text.proofs.NameLaws.{is_found}
 use Rattle.cgl_where.proofs.ReadingLaws.{line_passes, line_stops, point_reads, test_off, test_passed, within_limits}
 use Rattle.cgl_where.proofs.FrontLaws.{fault_over}
 use Rattle.cgl_where.specs.declared.carried.Carried.{Carried}
 use Rattle.cgl_where.specs.PointValue.{value}
-use Rattle.cgl_num.specs.Conditions.{first_kind}
+use Rattle.cgl_text.specs.Conditions.{first_kind}
 use Rattle.cgl_where.specs.PointFile.{Record, field, is_kept, kept, names_column, column_names, values, value_at, common_denominator, lcm, is_too_fine, zero_fraction, value_conditions, record_of, fault_after, point_of, point_in, Fault, Values}
 use Rattle.cgl_where.specs.Carried.{column_number, named_at, found_value, is_wide, grown_denominator, carried_conditions, carried_value, IsSound, Carries, TakesIn, FollowsLine}
 use Rattle.cgl_where.specs.Limits.{ArePositive}

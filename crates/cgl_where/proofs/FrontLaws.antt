@@ -3,12 +3,12 @@ use Rattle.std.proofs.Common.{◌≡◌, refl, sym, ap, ◌∙◌, arith, ℕ, �
 use Rattle.std.proofs.lemmas.List.{take_all}
 use Rattle.std.proofs.lemmas.Bool.Decides.{nat_tests}
 use Rattle.cgl_outside.specs.Shelf.{Held, file_of}
-use Rattle.cgl_num.specs.Text.{lines_of, is_over, most_bytes}
+use Rattle.cgl_text.specs.Text.{lines_of, is_over, most_bytes}
 use Rattle.cgl_model.specs.declared.mip.Model.{Model}
-use Rattle.cgl_num.specs.Conditions.{first_kind}
+use Rattle.cgl_text.specs.Conditions.{first_kind}
 use Rattle.cgl_where.specs.PointFile.{Record, record_of, kept, is_kept, value_conditions, fault_after, point_within, point_of, Outcome, Fault, Values}
-use Rattle.cgl_where.specs.declared.point.PointError.{PointError}
-use Rattle.cgl_where.specs.declared.point.PointError.TheVariants.{Fault as BadLine, Memory}
+use Rattle.cgl_where.specs.declared.point.PointFileError.{PointFileError}
+use Rattle.cgl_where.specs.declared.point.PointFileError.TheVariants.{Fault as BadLine, Memory}
 use Rattle.cgl_where.specs.Reading.{turn, read_from}
 use Rattle.cgl_where.specs.PointRead.{Tells, outcome_result, point_result}
 use Rattle.std.specs.Prelude.{IfOk, IfErr, IsErrOf}
@@ -19,7 +19,7 @@ use Rattle.cgl_outside.specs.declared.errors.FetchError.{FetchError}
 use Rattle.cgl_outside.specs.declared.errors.FetchError.TheVariants.{ReadFault as Unread, Memory as OutOfMemory}
 use Rattle.cgl_outside.specs.Means.{Means, MeansFault}
 use Rattle.cgl_where.proofs.ReadingLaws.{reads_alike}
-use Rattle.cgl_num.proofs.FrontLaws.{SameButLast, lines_of_front, over_front, over_last}
+use Rattle.cgl_text.proofs.FrontLaws.{SameButLast, lines_of_front, over_front, over_last}
 
 -- ---- the line that is over
 
@@ -81,7 +81,7 @@ shown held name front m o (Some bytes) some found part is =
       is = ap outcome_result (sym (front_means bytes m) ∙ ap (λ l. point_of l m) (sym (part bytes some)) ∙ is);
     }
 
-pub told_fault : (bytes : List ℕ) (m : Model) (e : PointError) (line kind : ℕ) → e ≡ BadLine line kind
+pub told_fault : (bytes : List ℕ) (m : Model) (e : PointFileError) (line kind : ℕ) → e ≡ BadLine line kind
     → (e ≡ Memory) ⊎ ((l : ℕ) × (k : ℕ) × (e ≡ BadLine l k) × (point_of bytes m ≡ Fault l k)) → point_of bytes m ≡ Fault line kind
 told_fault bytes m e line kind is (inl none) = cc
 told_fault bytes m e line kind is (inr (l, k, at, o)) = cc

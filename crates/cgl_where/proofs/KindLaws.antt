@@ -7,8 +7,8 @@ use Rattle.std.proofs.lemmas.List.{get_or_read, length-map}
 use Rattle.std.proofs.lemmas.Option.{slice_get-get_or, slice_get-map, unwrap_or-slice_get}
 use Rattle.std.proofs.lemmas.Bool.Decides.{nat_tests}
 use Rattle.cgl_num.specs.Fraction.{Fraction}
-use Rattle.cgl_num.specs.Conditions.{first_kind}
-use Rattle.cgl_num.specs.Seen.{word, words}
+use Rattle.cgl_text.specs.Conditions.{first_kind}
+use Rattle.cgl_text.specs.Seen.{word, words}
 use Rattle.cgl_model.specs.declared.mip.Model.{Model}
 use Rattle.cgl_where.specs.declared.carried.Carried.{Carried}
 use Rattle.cgl_where.specs.PointValue.{value}

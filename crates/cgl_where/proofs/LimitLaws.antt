@@ -1,20 +1,23 @@
 -- The limits that a point keeps, and the least common denominator.
-use Rattle.std.proofs.Common.{◌≡◌, refl, sym, ap, ◌∙◌, subst, arith, ℕ, zero, suc, ◌+◌, ◌*◌, ◌/◌, ◌^◌, ◌<◌, nat_le, false, List, [], ◌∷◌, ◌++◌, map, Option, Some, None}
+use Rattle.std.proofs.Common.{◌≡◌, refl, sym, ap, ◌∙◌, subst, arith, ℕ, zero, suc, ◌+◌, ◌*◌, ◌/◌, ◌^◌, ◌<◌, nat_le, false, List, [], ◌∷◌, ◌++◌, length, map, Option, Some, None, Ok}
 use Rattle.std.specs.Prelude.{ℤ, pos, negsuc, ◌*ℤ◌, ◌<ℤ◌, unsigned_abs}
 use Rattle.std.specs.Int.{◌∣◌}
 use Rattle.std.specs.List.{list_any}
 use Rattle.std.proofs.lemmas.Int.{ints}
+use Rattle.std.proofs.lemmas.List.{length-map}
 use Rattle.std.proofs.lemmas.Nat.Gcd.{dvd_trans}
 use Rattle.std.proofs.Math.Nat.{div-mul_cancel, one-dvd}
 use Rattle.std.proofs.Math.IntN.{neg_ℤ}
 use Rattle.cgl_num.specs.Fraction.{Fraction}
-use Rattle.cgl_num.specs.Text.{lines_of, most_bytes}
+use Rattle.cgl_text.specs.Text.{lines_of, most_bytes}
+use Rattle.cgl_model.specs.declared.mip.Column.{Column}
 use Rattle.cgl_model.specs.declared.mip.Model.{Model}
 use Rattle.cgl_model.specs.Point.{Point}
-use Rattle.cgl_where.specs.PointFile.{Record, record_of, kept, values, value_at, column_names, common_denominator, numerator_over, is_too_fine, fault_after, point_from, point_of, Outcome, Values}
+use Rattle.cgl_where.specs.PointFile.{Record, record_of, kept, values, value_at, column_names, common_denominator, numerator_over, is_too_fine, fault_after, faults, records, outcome, point_from, point_of, Outcome, Values, Fault}
+use Rattle.cgl_where.specs.PointRead.{outcome_result, point_result}
 use Rattle.cgl_where.specs.Reading.{turn, read_from}
 use Rattle.cgl_where.specs.Limits.{ArePositive}
-use Rattle.cgl_where.specs.Laws.{AreSmall, IsWithin, PointsAreWithin, DivideAll, DenominatorsAreLeast, AreOver, ValuesAreKept}
+use Rattle.cgl_where.specs.Laws.{AreSmall, IsWithin, PointsAreWithin, ResultsArePoints, DivideAll, DenominatorsAreLeast, AreOver, ValuesAreKept}
 use Rattle.cgl_where.proofs.LcmLaws.{lcm_first, lcm_second, lcm_least, denominator_above}
 use Rattle.cgl_where.proofs.PointLaws.{or-left, or-right, not_at_least, denominator_within, point_ready}
 use Rattle.cgl_where.proofs.ReadingLaws.{fine_after, reads_alike}
@@ -52,6 +55,30 @@ reads_within bytes m (line ∷ lines) n before x fine e =
 pub points_within : PointsAreWithin
 unfolding point_of
 points_within bytes m x e = reads_within bytes m (lines_of bytes) 1 [] x refl (sym (reads_alike most_bytes bytes m) ∙ e)
+
+-- ---- what a point file is read as
+
+values_sized : (m : Model) (found : List (ℕ × ℕ)) (records : List Record) (x : Point) → outcome m found records ≡ Values x → length x.p ≡ length m.cols
+values_sized m [] records x e =
+    let same : point_from m (kept records) ≡ x = cc in
+    ap (λ (y : Point). length y.p) (sym same)
+    ∙ length-map (map (value_at (kept records)) (column_names m)) (numerator_over (common_denominator (map (value_at (kept records)) (column_names m))))
+    ∙ length-map (column_names m) (value_at (kept records)) ∙ length-map m.cols (λ (c : Column). c.name)
+values_sized m (fault ∷ others) records x e = cc
+
+point_sized : (bytes : List ℕ) (m : Model) (x : Point) → point_of bytes m ≡ Values x → length x.p ≡ length m.cols
+unfolding point_of
+point_sized bytes m x e = values_sized m (faults most_bytes bytes m (records bytes)) (records bytes) x e
+
+result_case : (o : Outcome) (x : Point) → outcome_result o ≡ Ok x → o ≡ Values x
+result_case (Values y) x e = let same : y ≡ x = cc in ap Values same
+result_case (Fault line kind) x e = cc
+
+pub results_are_points : ResultsArePoints
+unfolding point_result
+results_are_points m bytes x e =
+    let found = result_case (point_of bytes m) x e in
+    (point_sized bytes m x found, points_within bytes m x found)
 
 -- ---- the least common denominator
 

@@ -4,13 +4,13 @@ use Rattle.std.specs.List.{cons_option}
 use Rattle.std.proofs.lemmas.List.{drop_more, length-map}
 use Rattle.std.proofs.lemmas.List.Elements.{filter-append}
 use denote.Ref.{Bor}
-use Rattle.cgl_num.specs.Text.{lines_of, is_over, most_bytes}
+use Rattle.cgl_text.specs.Text.{lines_of, is_over, most_bytes}
 use Rattle.cgl_model.specs.declared.mip.Model.{Model}
-use Rattle.cgl_num.specs.Conditions.{first_kind}
+use Rattle.cgl_text.specs.Conditions.{first_kind}
 use Rattle.cgl_where.specs.PointFile.{Record, record_of, records_from, records, before, kept, is_kept, values, is_too_fine, value_conditions, fault_after, fault_at, point_of, Outcome, Fault, outcome}
 use Rattle.cgl_where.specs.Reading.{turn, read_from, ReadsAlike}
-use Rattle.cgl_num.specs.Seen.{words}
-use Rattle.cgl_num.proofs.RecordLaws.{AllBelow, before-all, below-push, first-found, not_below}
+use Rattle.cgl_text.specs.Seen.{words}
+use Rattle.cgl_text.proofs.RecordLaws.{AllBelow, before-all, below-push, first-found, not_below}
 
 -- ---- the records before a line
 

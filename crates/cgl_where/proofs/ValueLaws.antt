@@ -9,7 +9,7 @@ use Rattle.std.proofs.lemmas.Bool.Decides.{nat_tests}
 use Rattle.cgl_num.specs.NumberText.{Word, natural, unsigned, signed, number, is_digit, is_digits}
 use Rattle.cgl_num.proofs.DigitLaws.{and-right, digits_from, digits-low}
 use Rattle.cgl_num.proofs.DecimalLaws.{tens_pos}
-use Rattle.cgl_num.proofs.NameLaws.{is_found}
+use Rattle.cgl_text.proofs.NameLaws.{is_found}
 use Rattle.cgl_where.specs.Limits.{fitting_natural}
 use Rattle.cgl_where.specs.PointValue.{numerator, denominator, fraction_of, is_slash, is_quotient, quotient, value}
 use Rattle.cgl_num.specs.Fraction.{lowest}

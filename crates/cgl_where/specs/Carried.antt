@@ -6,8 +6,8 @@ use Rattle.cgl_num.specs.NumberText.{Word}
 use Rattle.cgl_model.specs.declared.mip.Model.{Model}
 use Rattle.cgl_where.specs.declared.carried.Carried.{Carried}
 use Rattle.cgl_where.specs.PointValue.{value}
-use Rattle.cgl_num.specs.Text.{is_over, most_bytes}
-use Rattle.cgl_num.specs.Conditions.{Condition}
+use Rattle.cgl_text.specs.Text.{is_over, most_bytes}
+use Rattle.cgl_text.specs.Conditions.{Condition}
 use Rattle.cgl_where.specs.PointFile.{Record, field, kept, names_column, column_names, values, common_denominator, numerator_over, lcm, is_too_fine, zero_fraction, fault_after}
 
 -- the first column of the name

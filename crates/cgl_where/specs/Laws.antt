@@ -1,11 +1,12 @@
 -- What holds of every point file, and of common denominators.
-use Rattle.std.specs.Prelude.{◌≡◌, ℕ, ◌+◌, ◌≤◌, ◌<◌, ◌^◌, ℤ, pos, ◌<ℤ◌, ◌*ℤ◌, unsigned_abs, List, [], ◌∷◌, take}
+use Rattle.std.specs.Prelude.{◌≡◌, ℕ, ◌+◌, ◌≤◌, ◌<◌, ◌^◌, ℤ, pos, ◌<ℤ◌, ◌*ℤ◌, unsigned_abs, List, [], ◌∷◌, length, take, Ok}
 use Rattle.std.specs.Int.{◌∣◌}
 use Rattle.cgl_num.specs.Fraction.{Fraction}
 use Rattle.cgl_model.specs.declared.mip.Model.{Model}
 use Rattle.cgl_model.specs.Point.{Point}
 use Rattle.cgl_where.specs.PointFile.{common_denominator, numerator_over, point_of, Values}
 use Rattle.cgl_where.specs.Limits.{ArePositive}
+use Rattle.cgl_where.specs.PointRead.{point_result}
 
 abbrev pub AreSmall : List ℤ → Type 0
 AreSmall [] = Unit {0}
@@ -19,6 +20,10 @@ pub record IsWithin (x : Point) : Type 0 where
 -- the point of a file has a denominator of at most 2^62 and numerators below 2^100
 abbrev pub PointsAreWithin : Type 0
 PointsAreWithin = (bytes : List ℕ) (m : Model) (x : Point) → point_of bytes m ≡ Values x → IsWithin x
+
+-- what a point file is read as: a number for each column, within the limits
+abbrev pub ResultsArePoints : Type 0
+ResultsArePoints = (m : Model) (bytes : List ℕ) (x : Point) → point_result m bytes ≡ Ok x → (length x.p ≡ length m.cols) × IsWithin x
 
 -- each denominator divides n
 abbrev pub DivideAll : ℕ → List Fraction → Type 0

@@ -4,8 +4,8 @@ use Rattle.std.specs.List.{list_any}
 use Rattle.cgl_num.specs.Fraction.{Fraction}
 use Rattle.cgl_num.specs.Gcd.{gcd}
 use Rattle.cgl_num.specs.NumberText.{Word}
-use Rattle.cgl_num.specs.Conditions.{Condition, first_kind}
-use Rattle.cgl_num.specs.Text.{lines_of, kept_fields, no_field, is_one_of, is_over, most_bytes}
+use Rattle.cgl_text.specs.Conditions.{Condition, first_kind}
+use Rattle.cgl_text.specs.Text.{lines_of, kept_fields, no_field, is_one_of, is_over, most_bytes}
 use Rattle.cgl_model.specs.declared.mip.Model.{Model}
 use Rattle.cgl_model.specs.Point.{Point}
 use Rattle.cgl_where.specs.PointValue.{value}

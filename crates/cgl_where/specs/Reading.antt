@@ -1,6 +1,6 @@
 -- The outcome again, line by line: all that a reader carries is the kept records so far.
 use Rattle.std.specs.Prelude.{◌≡◌, ℕ, ◌+◌, List, [], ◌∷◌, ◌++◌, Option, Some, None}
-use Rattle.cgl_num.specs.Text.{lines_of}
+use Rattle.cgl_text.specs.Text.{lines_of}
 use Rattle.cgl_model.specs.declared.mip.Model.{Model}
 use Rattle.cgl_where.specs.PointFile.{Record, record_of, kept, fault_after, Outcome, Values, Fault, point_from, point_within}
 

@@ -3,16 +3,16 @@
 ghost use Rattle.std.specs.Prelude.{◌≡◌, ℕ, [], map, IfOk, None, false};
 ghost use Rattle.cgl_where.specs.Carried.{Carries, FollowsLine, IsSound, TakesIn, carried_conditions, carried_value, named_at};
 ghost use Rattle.cgl_where.specs.Limits.{ArePositive};
-ghost use Rattle.cgl_num.specs.Conditions.{first_kind};
-ghost use Rattle.cgl_num.specs.Seen.{words};
+ghost use Rattle.cgl_text.specs.Conditions.{first_kind};
+ghost use Rattle.cgl_text.specs.Seen.{words};
 ghost use Rattle.cgl_where.specs.PointFile.{Record, is_too_fine, point_in, record_of};
 
 use crate::columns::Columns;
 use crate::denominators::{grown_denominator, point_in};
 use crate::values::value;
 use cgl_model::Point;
-use cgl_num::text::kept_fields;
 use cgl_num::{Frac, Memory};
+use cgl_text::kept_fields;
 use std::alloc::Global;
 
 /// The most bytes of a line.

@@ -5,7 +5,7 @@ ghost use Rattle.cgl_where.specs.Carried.{column_number};
 
 use cgl_model::Model;
 use cgl_num::Memory;
-use cgl_num::text::Names;
+use cgl_text::Names;
 use std::alloc::Global;
 
 /// A model whose columns are found by their names.

@@ -10,5 +10,5 @@ mod read;
 mod values;
 
 pub use laws::known_points;
-pub use point::{PointError, point_of};
+pub use point::{PointFileError, point_of};
 pub use read::read_point;

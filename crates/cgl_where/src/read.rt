@@ -6,10 +6,10 @@ ghost use Rattle.cgl_where.specs.PointFile.{Values, point_of};
 ghost use Rattle.cgl_where.specs.PointRead.{Tells, point_result};
 ghost use Rattle.cgl_outside.specs.Means.{Means, MeansFault};
 
-use crate::{PointError, point_of};
+use crate::{PointFileError, point_of};
 use cgl_model::{Model, Point};
-use cgl_num::text::MOST_BYTES;
 use cgl_outside::{FetchError, ReadError, Shelf, read_front};
+use cgl_text::MOST_BYTES;
 use std::alloc::Global;
 
 /// The point that a file means for the model, with the error of a reading.
@@ -21,8 +21,8 @@ fn point_told(alloc: Global, bytes: &[u8], model: &Model) -> Result<Point, ReadE
 {
     match point_of(alloc, bytes, model) {
         Ok(point) => Ok(point),
-        Err(PointError::Fault { line, kind }) => Err(ReadError::Fault { line, kind }),
-        Err(PointError::Memory) => Err(ReadError::Memory),
+        Err(PointFileError::Fault { line, kind }) => Err(ReadError::Fault { line, kind }),
+        Err(PointFileError::Memory) => Err(ReadError::Memory),
     }
 }
 
@@ -32,7 +32,7 @@ fn point_told(alloc: Global, bytes: &[u8], model: &Model) -> Result<Point, ReadE
 /// # Errors
 ///
 /// `Fault` where the file is no point file for the model, at its first bad line and with the kind of
-/// [`PointError`], however long the file is. `ReadFault` where a read failed or there is no such
+/// [`PointFileError`], however long the file is. `ReadFault` where a read failed or there is no such
 /// file. `Memory` where memory was refused.
 pub fn read_point<S: Shelf>(
     alloc: Global,

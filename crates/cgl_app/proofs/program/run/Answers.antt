@@ -1,14 +1,11 @@
-use Rattle.std.proofs.Common.{refl, Some, None}
-use Rattle.cgl_app.specs.declared.refusal.Refusal.TheVariants.{Usage}
-use Rattle.cgl_app.proofs.AnsweredLaws.{answered}
-use Rattle.cgl_app.proofs.RanLaws.{ran_by, refused_now}
+use Rattle.cgl_app.proofs.AnsweredLaws.{cut_answered, show_answered, usage_answered}
 use Rattle.cgl_app.proofs.program.run.Goals as goal
 
-pub returns-in_default : goal.returns-in_default
-returns-in_default g c = answered _ _ _ _ _ _ _ _ (ran_by _ None _ _ _ _ _ _ _ (Some Usage) c.in_default.ensures (refused_now Usage _) refl c.say_usage.ensures)
+pub returns-in-None : goal.returns-in-None
+returns-in-None g c = usage_answered _ _ _ _ _ _ c.in-None.ensures c.say_usage.ensures
 
-pub returns-in-Ok : goal.returns-in-Ok
-returns-in-Ok g c = answered _ _ _ _ _ _ _ _ (ran_by _ _ _ _ _ _ _ _ _ None c.in-Some.ensures c.in-Ok.ensures refl (refl, refl))
+pub returns-in-Some-Cut : goal.returns-in-Some-Cut
+returns-in-Some-Cut g c = cut_answered c.laws_below.ensures _ _ _ _ _ _ _ _ _ (rw c.in-Some-Cut.field-0-is at c.in-Some-Cut.ensures) c.run_cut.ensures
 
-pub returns-in-Err : goal.returns-in-Err
-returns-in-Err g c = answered _ _ _ _ _ _ _ _ (ran_by _ _ _ _ _ _ _ _ _ (Some c.in-Err.refusal) c.in-Some.ensures c.in-Err.ensures c.status_of.ensures c.say_why.ensures)
+pub returns-in-Some-Show : goal.returns-in-Some-Show
+returns-in-Some-Show g c = show_answered c.laws_below.ensures _ _ _ _ _ _ _ _ _ (rw c.in-Some-Show.field-0-is at c.in-Some-Show.ensures) c.run_show.ensures

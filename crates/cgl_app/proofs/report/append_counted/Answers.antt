@@ -1,4 +1,4 @@
-use Rattle.cgl_num.proofs.GrowthLaws.{grows_then}
+use Rattle.cgl_text.specs.GrowthLaws.{grows_then}
 use Rattle.cgl_app.proofs.report.append_counted.Goals as goal
 
 pub returns : goal.returns

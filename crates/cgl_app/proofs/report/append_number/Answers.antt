@@ -1,5 +1,5 @@
 use Rattle.std.proofs.Common.{◌∙◌}
-use Rattle.cgl_num.proofs.GrowthLaws.{grows_as}
+use Rattle.cgl_text.specs.GrowthLaws.{grows_as}
 use Rattle.cgl_app.proofs.report.append_number.Goals as goal
 
 pub returns : goal.returns

@@ -1,6 +1,6 @@
 use Rattle.std.proofs.Common.{ap, flat_map}
 use Rattle.std.proofs.lemmas.List.{take_all}
-use Rattle.cgl_num.proofs.GrowthLaws.{grows_as, no_items}
+use Rattle.cgl_text.specs.GrowthLaws.{grows_as, no_items}
 use Rattle.cgl_app.specs.Report.{wide_line}
 use Rattle.cgl_app.proofs.ReportLaws.{wide_grows}
 use Rattle.cgl_app.proofs.report.append_wides.Goals as goal

@@ -1,5 +1,5 @@
 use Rattle.std.proofs.Common.{flat_map, take}
-use Rattle.cgl_num.specs.Growth.{Grows}
+use Rattle.cgl_text.specs.Growth.{Grows}
 use Rattle.cgl_app.specs.Report.{wide_line}
 use Rattle.cgl_app.proofs.report.append_wides.Given as goal
 

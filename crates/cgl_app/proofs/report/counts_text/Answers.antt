@@ -2,7 +2,7 @@ use Rattle.std.proofs.Common.{◌∙◌, ◌++◌, ap, length}
 use Rattle.std.specs.Prelude.{sum_by}
 use Rattle.std.proofs.lemmas.Result.{IfOk-weaker}
 use Rattle.cgl_model.specs.declared.mip.Column.{Column}
-use Rattle.cgl_num.proofs.GrowthLaws.{grows_as}
+use Rattle.cgl_text.specs.GrowthLaws.{grows_as}
 use Rattle.cgl_app.specs.Report.{counts_text}
 use Rattle.cgl_app.proofs.ReportLaws.{model_counted}
 use Rattle.cgl_app.proofs.report.counts_text.Goals as goal

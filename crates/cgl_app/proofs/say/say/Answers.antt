@@ -1,12 +1,11 @@
 use Rattle.std.proofs.Common.{arith, ◌∙◌, ◌<◌, ◌≤◌, refl, sym, map, length, List, ℕ, [], Bor}
 use Rattle.std.proofs.Math.ListN.{get_or-map}
 use Rattle.std.proofs.lemmas.List.{length-map}
-use Rattle.cgl_outside.proofs.SinkLaws.{put_empty}
-use Rattle.cgl_app.proofs.SayLaws.{more_said, part_said, all_said}
+use Rattle.cgl_outside.specs.ScriptLaws.{more_said, part_said, none_said, all_said}
 use Rattle.cgl_app.proofs.say.say.Goals as goal
 
 pub pieces-init : goal.pieces-init
-pieces-init g c = record { written = sym (put_empty _); faults = refl }
+pieces-init g c = record { written = none_said (map (λ (p : Bor (List ℕ)). p.now) c.args.pieces.now) _; faults = refl }
 
 pub returns-in_default : goal.returns-in_default
 returns-in_default g c =

@@ -1,6 +1,6 @@
 use Rattle.std.proofs.Common.{◌≡◌, take, map}
 use Rattle.cgl_outside.specs.Sink.{with_put}
-use Rattle.cgl_app.specs.Lines.{joined}
+use Rattle.cgl_outside.specs.Says.{joined}
 use Rattle.cgl_app.proofs.say.say.Given as goal
 
 abbrev pub invariant-pieces : goal.invariant-pieces

@@ -1,6 +1,6 @@
-use Rattle.std.proofs.Common.{ℕ, Err, IsErrOf, Some, is_some, ap, ◌∙◌, sym, not}
+use Rattle.std.proofs.Common.{ℕ, Err, IsErrOf, Some, is_some, ap, ◌∙◌, sym, not, refl, inl, inr}
 use Rattle.cgl_deck.specs.declared.extend.ExtendError.{ExtendError}
-use Rattle.cgl_deck.proofs.ExtensionLaws.{extension_stands}
+use Rattle.cgl_deck.proofs.ExtensionLaws.{extension_stands, not_decimal_refused, too_many_refused, unknown_refused}
 use Rattle.cgl_deck.proofs.extend.with_cuts.Goals as goal
 
 not_decimal_is_no_unknown : {T P : Type 0} {j k : ℕ} → IsErrOf {T = T} (Err (ExtendError.NotDec j)) (ExtendError.Unknown k) → P
@@ -38,3 +38,19 @@ returns-clause-ok c =
     let decimal = c.in_default-first_not_decimal.ensures in
     let fits = sym c.fits.ensures ∙ c.if-not-fits.false in
     extension_stands c.args.model.now c.args.cuts.now known decimal fits ∙ ap Some (sym c.in-Ok.ensures.model)
+
+pub returns-in-Some-clause-refused : goal.returns-in-Some-clause-refused
+returns-in-Some-clause-refused c = inr (unknown_refused c.args.model.now c.args.cuts.now _ c.in-Some.ensures)
+
+pub returns-in-Some-first_not_decimal-clause-refused : goal.returns-in-Some-first_not_decimal-clause-refused
+returns-in-Some-first_not_decimal-clause-refused c = inr (not_decimal_refused c.args.model.now c.args.cuts.now _ c.in-Some-first_not_decimal.ensures)
+
+pub returns-then-not-fits-clause-refused : goal.returns-then-not-fits-clause-refused
+returns-then-not-fits-clause-refused c = inr (too_many_refused c.args.model.now c.args.cuts.now (record {
+  known = c.in_default.ensures;
+  decimal = c.in_default-first_not_decimal.ensures;
+  large = ap not (sym c.fits.ensures ∙ c.if-not-fits.true);
+}))
+
+pub returns-in_default-extend-clause-refused : goal.returns-in_default-extend-clause-refused
+returns-in_default-extend-clause-refused c = inl refl

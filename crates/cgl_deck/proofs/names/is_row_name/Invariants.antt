@@ -1,5 +1,5 @@
 use Rattle.std.proofs.Common.{◌≡◌, map, drop}
-use Rattle.cgl_num.specs.Text.{is_one_of}
+use Rattle.cgl_text.specs.Text.{is_one_of}
 use Rattle.cgl_deck.proofs.names.is_row_name.Given as goal
 
 abbrev pub invariant-loop-row : goal.invariant-loop-row

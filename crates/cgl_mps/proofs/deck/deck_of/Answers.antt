@@ -1,5 +1,5 @@
 use Rattle.std.proofs.lemmas.Result.{IfOk-weaker}
-use Rattle.cgl_mps.proofs.ValidLaws.{decks_valid}
+use Rattle.cgl_decode.proofs.ValidLaws.{decks_valid}
 use Rattle.cgl_mps.proofs.deck.deck_of.Goals as goal
 
 pub returns-clause-valid : goal.returns-clause-valid

@@ -1,11 +1,11 @@
 use Rattle.std.proofs.Common.{◌≡◌, ◌+◌, None, true, false, refl, sym, ap, ap₂, ◌∙◌}
-use Rattle.cgl_mps.specs.declared.record.Section.TheVariants.{Start}
-use Rattle.cgl_mps.specs.Decode.{deck_limits, Deck}
-use Rattle.cgl_mps.specs.Faults.{fault_after}
-use Rattle.cgl_mps.specs.Reading.{read_from}
+use Rattle.cgl_decode.specs.declared.kinds.Section.TheVariants.{Start}
+use Rattle.cgl_decode.specs.Decode.{deck_limits, Deck}
+use Rattle.cgl_decode.specs.Faults.{fault_after}
+use Rattle.cgl_decode.specs.Reading.{read_from}
 use Rattle.cgl_mps.proofs.CarriedLaws.{follows}
 use Rattle.cgl_mps.proofs.DeckLaws.{line_read}
-use Rattle.cgl_mps.proofs.ReadingLaws.{reads_alike}
+use Rattle.cgl_decode.proofs.ReadingLaws.{reads_alike}
 use Rattle.cgl_mps.proofs.deck.model_from.Goals as goal
 
 pub loop-line-init : goal.loop-line-init

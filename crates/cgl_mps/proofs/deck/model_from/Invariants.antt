@@ -1,7 +1,7 @@
 use Rattle.std.proofs.Common.{◌≡◌, ◌+◌, drop}
-use Rattle.cgl_mps.specs.Decode.{decode, deck_limits}
-use Rattle.cgl_mps.specs.Reading.{read_from}
-use Rattle.cgl_num.specs.Seen.{words}
+use Rattle.cgl_decode.specs.Decode.{decode, deck_limits}
+use Rattle.cgl_decode.specs.Reading.{read_from}
+use Rattle.cgl_text.specs.Seen.{words}
 use Rattle.cgl_mps.proofs.deck.model_from.Given as goal
 
 abbrev pub invariant-loop-line : goal.invariant-loop-line

@@ -1,6 +1,6 @@
 use Rattle.std.proofs.Common.{sym, ◌∙◌, []}
-use Rattle.cgl_mps.specs.Decode.{deck_limits}
-use Rattle.cgl_mps.specs.Faults.{entry_conditions}
+use Rattle.cgl_decode.specs.Decode.{deck_limits}
+use Rattle.cgl_decode.specs.Faults.{entry_conditions}
 use Rattle.cgl_mps.proofs.FaultLaws.{no_pair, first_pair, one_pair, second_pair, judged}
 use Rattle.cgl_mps.proofs.faults.entries_fault.Goals as goal
 

@@ -1,6 +1,6 @@
 use Rattle.std.proofs.Common.{◌≡◌, refl, sym, ◌∙◌, ℕ, Bool, true, false, cond, not, Option, Some}
-use Rattle.cgl_num.specs.Text.{is_one_of}
-use Rattle.cgl_mps.specs.Sections.{row_names}
+use Rattle.cgl_text.specs.Text.{is_one_of}
+use Rattle.cgl_decode.specs.Sections.{row_names}
 use Rattle.cgl_mps.proofs.faults.entry_fault.Goals as goal
 
 unknown : (known : Bool) (others : Option ℕ) → known ≡ false → Some 5 ≡ cond (not known) (Some 5) others

@@ -1,6 +1,6 @@
 use Rattle.std.proofs.Common.{◌∙◌, ap, sym}
-use Rattle.cgl_num.specs.Text.{is_over}
-use Rattle.cgl_mps.specs.Decode.{deck_limits}
+use Rattle.cgl_text.specs.Text.{is_over}
+use Rattle.cgl_decode.specs.Decode.{deck_limits}
 use Rattle.cgl_mps.proofs.FaultLaws.{fault_over, fault_not_over}
 use Rattle.cgl_mps.proofs.faults.fault_after.Goals as goal
 

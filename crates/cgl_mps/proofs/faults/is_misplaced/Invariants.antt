@@ -1,6 +1,6 @@
 use Rattle.std.proofs.Common.{◌≡◌, drop}
 use Rattle.std.specs.List.{list_any}
-use Rattle.cgl_mps.specs.Found.{is_behind}
+use Rattle.cgl_mps.proofs.Found.{is_behind}
 use Rattle.cgl_mps.proofs.faults.is_misplaced.Given as goal
 
 abbrev pub invariant-loop-h : goal.invariant-loop-h

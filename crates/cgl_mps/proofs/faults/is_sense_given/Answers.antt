@@ -1,7 +1,7 @@
 use Rattle.std.proofs.Common.{◌≡◌, refl, sym, ap, ◌∙◌, ℕ, List, Option, Some, None, is_some, option_map}
 use denote.Ref.{Bor}
-use Rattle.cgl_num.specs.Seen.{word}
-use Rattle.cgl_mps.specs.Found.{has_sense}
+use Rattle.cgl_text.specs.Seen.{word}
+use Rattle.cgl_mps.proofs.Found.{has_sense}
 use Rattle.cgl_mps.proofs.FaultLaws.{any_sense}
 use Rattle.cgl_mps.proofs.TurnLaws.{passed_turn, none_in}
 use Rattle.cgl_mps.proofs.faults.is_sense_given.Goals as goal

@@ -1,7 +1,7 @@
 use Rattle.std.proofs.Common.{◌∙◌, ap, sym, true, false, unwrap_or, option_map}
 use Rattle.cgl_num.specs.NumberText.{is_number}
-use Rattle.cgl_num.specs.Seen.{word}
-use Rattle.cgl_mps.specs.Faults.{takes}
+use Rattle.cgl_text.specs.Seen.{word}
+use Rattle.cgl_decode.specs.Faults.{takes}
 use Rattle.cgl_mps.proofs.FaultLaws.{value_taken, value_spare}
 use Rattle.cgl_mps.proofs.faults.is_value_of.Goals as goal
 

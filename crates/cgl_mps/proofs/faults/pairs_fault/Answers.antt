@@ -1,5 +1,5 @@
 use Rattle.std.proofs.Common.{sym, ◌∙◌, []}
-use Rattle.cgl_mps.specs.Faults.{pair_conditions}
+use Rattle.cgl_decode.specs.Faults.{pair_conditions}
 use Rattle.cgl_mps.proofs.FaultLaws.{no_pair, first_pair, one_pair, second_pair, judged}
 use Rattle.cgl_mps.proofs.faults.pairs_fault.Goals as goal
 

@@ -1,7 +1,7 @@
 use Rattle.std.proofs.Common.{◌≡◌, [], ◌∷◌, codes, drop}
 use Rattle.std.specs.List.{list_any}
-use Rattle.cgl_num.specs.Text.{is_one_of}
-use Rattle.cgl_mps.specs.Sections.{senses}
+use Rattle.cgl_text.specs.Text.{is_one_of}
+use Rattle.cgl_decode.specs.Sections.{senses}
 use Rattle.cgl_mps.proofs.models.maximises.Given as goal
 
 abbrev pub invariant-loop-r : goal.invariant-loop-r

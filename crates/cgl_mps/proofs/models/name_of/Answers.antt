@@ -1,6 +1,6 @@
 use Rattle.std.proofs.Common.{ap, ◌∙◌, unwrap_or}
-use Rattle.cgl_num.specs.Seen.{word}
-use Rattle.cgl_mps.specs.Models.{name_in}
+use Rattle.cgl_text.specs.Seen.{word}
+use Rattle.cgl_decode.specs.Models.{name_in}
 use Rattle.cgl_mps.proofs.TurnLaws.{last_turn, last_found}
 use Rattle.cgl_mps.proofs.WordLaws.{word_or}
 use Rattle.cgl_mps.proofs.models.name_of.Goals as goal

@@ -1,5 +1,5 @@
 use Rattle.std.proofs.Common.{◌≡◌, [], filter_map, drop}
-use Rattle.cgl_mps.specs.Models.{last_or, name_in}
+use Rattle.cgl_decode.specs.Models.{last_or, name_in}
 use Rattle.cgl_mps.proofs.models.name_of.Given as goal
 
 abbrev pub invariant-loop-r : goal.invariant-loop-r

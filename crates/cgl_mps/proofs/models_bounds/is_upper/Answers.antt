@@ -1,7 +1,7 @@
 use Rattle.std.proofs.Common.{◌≡◌, refl, false, rules}
-use Rattle.cgl_mps.specs.declared.record.BoundKind.{BoundKind}
-use Rattle.cgl_mps.specs.declared.record.BoundKind.TheVariants.{Lo, Li, Up, Ui, Fx, Fr, Mi, Pl, Bv}
-use Rattle.cgl_mps.specs.Models.{is_upper}
+use Rattle.cgl_decode.specs.declared.kinds.BoundKind.{BoundKind}
+use Rattle.cgl_decode.specs.declared.kinds.BoundKind.TheVariants.{Lo, Li, Up, Ui, Fx, Fr, Mi, Pl, Bv}
+use Rattle.cgl_decode.specs.Models.{is_upper}
 use Rattle.cgl_mps.proofs.models_bounds.is_upper.Goals as goal
 
 others : (kind : BoundKind) → (kind ≡ Up → ⊥) → (kind ≡ Ui → ⊥) → false ≡ is_upper kind

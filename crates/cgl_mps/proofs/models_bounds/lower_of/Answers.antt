@@ -1,9 +1,9 @@
 use Rattle.std.proofs.Common.{◌≡◌, sym, ap, ap₂, ◌∙◌, ℕ, suc, ◌+◌, ◌<◌, List, ◌∷◌, Option, unwrap_or, drop, filter_map, get_or, length, drop-cons, add-one}
 use Rattle.cgl_num.specs.Decimal.{Decimal}
-use Rattle.cgl_mps.specs.Sections.{Bound}
-use Rattle.cgl_mps.specs.Reading.{setting}
-use Rattle.cgl_mps.specs.Models.{last_or, lower_by}
-use Rattle.cgl_mps.proofs.BoundLaws.{last_or_set}
+use Rattle.cgl_decode.specs.Sections.{Bound}
+use Rattle.cgl_decode.specs.Reading.{setting}
+use Rattle.cgl_decode.specs.Models.{last_or, lower_by}
+use Rattle.cgl_decode.proofs.BoundLaws.{last_or_set}
 use Rattle.cgl_mps.proofs.models_bounds.lower_of.Goals as goal
 
 one_more : (bounds : List Bound) (i : ℕ) (b : Bound) (before after : Option Decimal) → i < length bounds → b ≡ get_or bounds i b → after ≡ unwrap_or (setting b) before

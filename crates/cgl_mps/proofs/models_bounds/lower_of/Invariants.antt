@@ -1,5 +1,5 @@
 use Rattle.std.proofs.Common.{◌≡◌, filter_map, drop}
-use Rattle.cgl_mps.specs.Models.{last_or, lower_by, value_in, lower_of}
+use Rattle.cgl_decode.specs.Models.{last_or, lower_by, value_in, lower_of}
 use Rattle.cgl_mps.proofs.models_bounds.lower_of.Given as goal
 
 abbrev pub invariant-loop-b : goal.invariant-loop-b

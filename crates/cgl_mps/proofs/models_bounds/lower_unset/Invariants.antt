@@ -1,6 +1,6 @@
 use Rattle.std.proofs.Common.{◌≡◌, ◌&&◌, drop}
 use Rattle.std.specs.List.{list_any}
-use Rattle.cgl_mps.specs.Models.{is_upper, is_below_zero, value_in}
+use Rattle.cgl_decode.specs.Models.{is_upper, is_below_zero, value_in}
 use Rattle.cgl_mps.proofs.models_bounds.lower_unset.Given as goal
 
 abbrev pub invariant-loop-b : goal.invariant-loop-b

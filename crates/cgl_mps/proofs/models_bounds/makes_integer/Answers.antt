@@ -1,6 +1,6 @@
 use Rattle.std.proofs.Common.{ap, sym, ◌∙◌}
-use Rattle.cgl_mps.specs.Sections.{Bound}
-use Rattle.cgl_mps.specs.Models.{makes_integer}
+use Rattle.cgl_decode.specs.Sections.{Bound}
+use Rattle.cgl_decode.specs.Models.{makes_integer}
 use Rattle.cgl_mps.proofs.TurnLaws.{passed_turn, none_in}
 use Rattle.cgl_mps.proofs.models_bounds.makes_integer.Goals as goal
 

@@ -1,6 +1,6 @@
 use Rattle.std.proofs.Common.{◌≡◌, drop}
 use Rattle.std.specs.List.{list_any}
-use Rattle.cgl_mps.specs.Models.{makes_integer}
+use Rattle.cgl_decode.specs.Models.{makes_integer}
 use Rattle.cgl_mps.proofs.models_bounds.makes_integer.Given as goal
 
 abbrev pub invariant-loop-b : goal.invariant-loop-b

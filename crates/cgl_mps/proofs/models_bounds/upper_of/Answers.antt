@@ -1,6 +1,6 @@
 use Rattle.std.proofs.Common.{ap, ap₂, ◌∙◌, unwrap_or}
-use Rattle.cgl_mps.specs.Sections.{Bound}
-use Rattle.cgl_mps.specs.Models.{upper_by, value_in, upper_of}
+use Rattle.cgl_decode.specs.Sections.{Bound}
+use Rattle.cgl_decode.specs.Models.{upper_by, value_in, upper_of}
 use Rattle.cgl_mps.proofs.TurnLaws.{last_turn, last_found}
 use Rattle.cgl_mps.proofs.models_bounds.upper_of.Goals as goal
 

@@ -3,9 +3,9 @@ use Rattle.std.specs.List.{list_any}
 use Rattle.cgl_num.specs.Decimal.{Decimal}
 use Rattle.cgl_num.specs.NumberText.{Word}
 use Rattle.cgl_model.specs.declared.mip.Column.{Column}
-use Rattle.cgl_mps.specs.Records.{Record}
-use Rattle.cgl_mps.specs.Sections.{Bound, row_names}
-use Rattle.cgl_mps.specs.Models.{bounds_of, entry_of, lower_of, makes_integer, upper_of}
+use Rattle.cgl_decode.specs.Records.{Record}
+use Rattle.cgl_decode.specs.Sections.{Bound, row_names}
+use Rattle.cgl_decode.specs.Models.{bounds_of, entry_of, lower_of, makes_integer, upper_of}
 use Rattle.cgl_mps.specs.Carried.{ReadColumn, made_column}
 use Rattle.cgl_mps.proofs.models_columns.column_of.Goals as goal
 use Rattle.cgl_mps.proofs.models_columns.column_of.Goals.{then-column, else-column}

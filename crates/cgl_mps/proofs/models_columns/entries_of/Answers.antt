@@ -1,5 +1,5 @@
 use Rattle.std.proofs.Common.{refl, filter_map}
-use Rattle.cgl_mps.specs.Models.{entry_of}
+use Rattle.cgl_decode.specs.Models.{entry_of}
 use Rattle.cgl_mps.proofs.TurnLaws.{all_grown}
 use Rattle.cgl_mps.proofs.models_columns.entries_of.Goals as goal
 

@@ -1,5 +1,5 @@
 use Rattle.std.proofs.Common.{◌≡◌, ◌++◌, filter_map, drop}
-use Rattle.cgl_mps.specs.Models.{entry_of}
+use Rattle.cgl_decode.specs.Models.{entry_of}
 use Rattle.cgl_mps.proofs.models_columns.entries_of.Given as goal
 
 abbrev pub invariant-loop-pair : goal.invariant-loop-pair

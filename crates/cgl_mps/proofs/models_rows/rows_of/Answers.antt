@@ -1,7 +1,7 @@
 use Rattle.std.proofs.Common.{refl, map, List}
-use Rattle.cgl_mps.specs.Records.{Record}
-use Rattle.cgl_mps.specs.Sections.{rows}
-use Rattle.cgl_mps.specs.Models.{row_of}
+use Rattle.cgl_decode.specs.Records.{Record}
+use Rattle.cgl_decode.specs.Sections.{rows}
+use Rattle.cgl_decode.specs.Models.{row_of}
 use Rattle.cgl_mps.proofs.TurnLaws.{all_grown}
 use Rattle.cgl_mps.proofs.models_rows.rows_of.Goals as goal
 

@@ -1,6 +1,6 @@
 use Rattle.std.proofs.Common.{◌≡◌, ◌++◌, map, drop}
-use Rattle.cgl_mps.specs.Sections.{rows}
-use Rattle.cgl_mps.specs.Models.{row_of}
+use Rattle.cgl_decode.specs.Sections.{rows}
+use Rattle.cgl_decode.specs.Models.{row_of}
 use Rattle.cgl_mps.proofs.models_rows.rows_of.Given as goal
 
 abbrev pub invariant-loop-r : goal.invariant-loop-r

@@ -1,9 +1,9 @@
 use Rattle.std.proofs.Common.{◌≡◌, ap, sym, ◌∙◌, List, Option, option_and_then, option_map}
 use Rattle.cgl_num.specs.NumberText.{Word, number}
-use Rattle.cgl_num.specs.Seen.{word}
-use Rattle.cgl_mps.specs.Sections.{Pair, counting_pairs}
-use Rattle.cgl_mps.specs.Models.{value_at, value_for}
-use Rattle.cgl_mps.proofs.ModelLaws.{value_read}
+use Rattle.cgl_text.specs.Seen.{word}
+use Rattle.cgl_decode.specs.Sections.{Pair, counting_pairs}
+use Rattle.cgl_decode.specs.Models.{value_at, value_for}
+use Rattle.cgl_decode.proofs.ModelLaws.{value_read}
 use Rattle.cgl_mps.proofs.models_rows.value_at.Goals as goal
 
 read_among : (pairs these whole : List Pair) (row : Word) (found : Option Word) → found ≡ value_for these row → these ≡ pairs → pairs ≡ whole → option_and_then number found ≡ value_at whole row

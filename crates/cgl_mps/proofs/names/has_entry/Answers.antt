@@ -1,11 +1,11 @@
 use Rattle.std.proofs.Common.{◌≡◌, ap, sym, ◌∙◌, true, List, Option, Some, None, option_map, filter, flat_map}
 use Rattle.cgl_num.specs.NumberText.{Word}
-use Rattle.cgl_mps.specs.declared.record.Section.TheVariants.{Columns}
-use Rattle.cgl_mps.specs.Records.{Record, data_in}
-use Rattle.cgl_mps.specs.Sections.{entry_pairs, names_column}
-use Rattle.cgl_mps.specs.Faults.{names_row}
+use Rattle.cgl_decode.specs.declared.kinds.Section.TheVariants.{Columns}
+use Rattle.cgl_decode.specs.Records.{Record, data_in}
+use Rattle.cgl_decode.specs.Sections.{entry_pairs, names_column}
+use Rattle.cgl_decode.specs.Faults.{names_row}
 use Rattle.cgl_mps.specs.Carried.{ReadColumn, column_in, entry_lines, is_current, own_pairs}
-use Rattle.cgl_mps.proofs.DistinctLaws.{equal_words}
+use Rattle.cgl_decode.proofs.DistinctLaws.{equal_words}
 use Rattle.cgl_mps.proofs.PushLaws.{no_pairs}
 use Rattle.cgl_mps.proofs.names.has_entry.Goals as goal
 

@@ -1,6 +1,6 @@
 use Rattle.std.proofs.Common.{ap, sym, ◌∙◌, not}
-use Rattle.cgl_mps.specs.declared.record.Section.TheVariants.{Columns}
-use Rattle.cgl_mps.specs.Records.{data_in}
+use Rattle.cgl_decode.specs.declared.kinds.Section.TheVariants.{Columns}
+use Rattle.cgl_decode.specs.Records.{data_in}
 use Rattle.cgl_mps.proofs.PushLaws.{known_if_current, known_if_ended, any_line}
 use Rattle.cgl_mps.proofs.names.is_new_column.Goals as goal
 

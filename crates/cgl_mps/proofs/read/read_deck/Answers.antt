@@ -1,8 +1,8 @@
 use Rattle.std.proofs.Common.{sym, ap, ◌∙◌, subst, refl, inl, Err}
 use Rattle.std.specs.Prelude.{IfErr}
 use Rattle.std.proofs.lemmas.Result.{IfOk-weaker}
-use Rattle.cgl_mps.specs.Decode.{decode, Deck}
-use Rattle.cgl_mps.proofs.DecimalLaws.{decks_decimal}
+use Rattle.cgl_decode.specs.Decode.{decode, Deck}
+use Rattle.cgl_decode.proofs.DecimalLaws.{decks_decimal}
 use Rattle.cgl_mps.proofs.DeckResultLaws.{front_result, Told, told_faults, told_no_read}
 use Rattle.cgl_mps.proofs.read.read_deck.Goals as goal
 

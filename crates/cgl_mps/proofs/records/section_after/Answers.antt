@@ -1,6 +1,6 @@
 use Rattle.std.proofs.Common.{ap, sym, ◌∙◌, cond}
-use Rattle.cgl_num.specs.Seen.{words}
-use Rattle.cgl_mps.specs.Records.{first_word, section_named}
+use Rattle.cgl_text.specs.Seen.{words}
+use Rattle.cgl_decode.specs.Records.{first_word, section_named}
 use Rattle.cgl_mps.proofs.WordLaws.{first_read}
 use Rattle.cgl_mps.proofs.records.section_after.Goals as goal
 

@@ -1,6 +1,6 @@
 use Rattle.std.proofs.Common.{ap, sym, ◌∙◌}
-use Rattle.cgl_num.specs.Seen.{words}
-use Rattle.cgl_mps.specs.Sections.{bound_with, needs_value}
+use Rattle.cgl_text.specs.Seen.{words}
+use Rattle.cgl_decode.specs.Sections.{bound_with, needs_value}
 use Rattle.cgl_mps.specs.Seen.{bound_kind}
 use Rattle.cgl_mps.proofs.WordLaws.{bound_read}
 use Rattle.cgl_mps.proofs.sections.bound_in.Goals as goal

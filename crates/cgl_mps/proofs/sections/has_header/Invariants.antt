@@ -1,6 +1,6 @@
 use Rattle.std.proofs.Common.{◌≡◌, ◌&&◌, drop}
 use Rattle.std.specs.List.{list_any}
-use Rattle.cgl_mps.specs.Records.{has_header, same_section}
+use Rattle.cgl_decode.specs.Records.{has_header, same_section}
 use Rattle.cgl_mps.proofs.sections.has_header.Given as goal
 
 abbrev pub invariant-loop-r : goal.invariant-loop-r

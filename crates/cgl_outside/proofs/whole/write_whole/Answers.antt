@@ -1,5 +1,5 @@
 use Rattle.std.proofs.Common.{arith, ◌≤◌, ◌∙◌, inr}
-use Rattle.cgl_outside.proofs.CountRules.{no_excuse, same_later}
+use Rattle.cgl_outside.proofs.CountRules.{no_excuse, rose_or, same_later}
 use Rattle.cgl_outside.proofs.ShelfRules.{not_lacking, more_written, part_written, none_written, all_written}
 use Rattle.cgl_outside.proofs.whole.write_whole.Goals as goal
 
@@ -9,7 +9,7 @@ returns-in_default g c =
     record {
       ok = tt;
       stands = none_written _ _ _ _ c.in_default.ensures.err;
-      fault = no_excuse (λ never. never) counts.failed;
+      fault = no_excuse (λ never. never) (rose_or _ _ counts.failed);
       ok_writes = tt;
       later = counts.later;
       reads = c.in_default.ensures.reads;
@@ -26,7 +26,7 @@ returns-in_default-append g c =
     record {
       ok = tt;
       stands = inr (part_written _ _ _ _ _ _ err.0 _ before.held err.1);
-      fault = no_excuse (not_lacking _ _ _ _ before.held) counts.failed;
+      fault = no_excuse (not_lacking _ _ _ _ before.held) (rose_or _ _ counts.failed);
       ok_writes = tt;
       later = counts.later;
       reads = c.in_default-append.ensures.reads ∙ before.reads;

@@ -1,4 +1,4 @@
-use Rattle.cgl_where.proofs.LimitLaws.{denominators_least, points_within, values_kept}
+use Rattle.cgl_where.proofs.LimitLaws.{denominators_least, points_within, results_are_points, values_kept}
 use Rattle.cgl_where.proofs.FrontLaws.{front_means}
 use Rattle.cgl_where.proofs.laws.known_points.Goals as goal
 
@@ -13,3 +13,6 @@ returns-clause-values c = values_kept
 
 pub returns-clause-fronts : goal.returns-clause-fronts
 returns-clause-fronts c = front_means
+
+pub returns-clause-results : goal.returns-clause-results
+returns-clause-results c = results_are_points

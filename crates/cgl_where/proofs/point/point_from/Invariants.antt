@@ -1,5 +1,5 @@
 use Rattle.std.proofs.Common.{◌+◌, drop}
-use Rattle.cgl_num.specs.Seen.{words}
+use Rattle.cgl_text.specs.Seen.{words}
 use Rattle.cgl_where.proofs.CarriedLaws.{Reads}
 use Rattle.cgl_where.proofs.point.point_from.Given as goal
 

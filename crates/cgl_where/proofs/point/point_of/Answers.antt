@@ -2,7 +2,7 @@ use Rattle.std.proofs.Common.{◌≡◌, ◌⊎◌, subst, inl, refl, ℕ, lengt
 use Rattle.std.specs.Prelude.{IfOk, IfErr}
 use Rattle.cgl_model.specs.declared.mip.Model.{Model}
 use Rattle.cgl_where.specs.PointFile.{Fault, Values, point_of}
-use Rattle.cgl_where.specs.declared.point.PointError.TheVariants.{Fault as BadLine, Memory}
+use Rattle.cgl_where.specs.declared.point.PointFileError.TheVariants.{Fault as BadLine, Memory}
 use Rattle.cgl_where.proofs.point.point_of.Goals as goal
 
 pub returns-in_default-clause-point : goal.returns-in_default-clause-point

@@ -1,5 +1,5 @@
 use Rattle.std.proofs.Common.{refl, ap, ◌∙◌, bytes_eq, filter}
-use Rattle.cgl_mps.specs.Sections.{Bound}
+use Rattle.cgl_decode.specs.Sections.{Bound}
 use Rattle.cgl_mps.proofs.TurnLaws.{all_grown}
 use Rattle.cgl_mps.proofs.bound.Bounds.on.Goals as goal
 

@@ -1,8 +1,8 @@
 use Rattle.std.proofs.Common.{◌≡◌, sym, ap, ap₂, ◌∙◌, subst, true, false, cond, List}
 use Rattle.std.specs.Prelude.{OnOk}
-use Rattle.cgl_num.specs.Seen.{words}
-use Rattle.cgl_mps.specs.Records.{Record, field}
-use Rattle.cgl_mps.specs.Sections.{Pair, entry_pairs, is_marker, pairs_of}
+use Rattle.cgl_text.specs.Seen.{words}
+use Rattle.cgl_decode.specs.Records.{Record, field}
+use Rattle.cgl_decode.specs.Sections.{Pair, entry_pairs, is_marker, pairs_of}
 use Rattle.cgl_mps.specs.Carried.{ReadColumns, after_line, after_marker, after_more, after_new, is_current}
 use Rattle.cgl_mps.proofs.columns.ReadColumns.add.Goals as goal
 

@@ -1,6 +1,6 @@
 use Rattle.std.proofs.Common.{ap, sym, ◌∙◌, bytes_eq, Some}
-use Rattle.cgl_mps.specs.Sections.{Pair}
-use Rattle.cgl_mps.specs.Models.{value_for}
+use Rattle.cgl_decode.specs.Sections.{Pair}
+use Rattle.cgl_decode.specs.Models.{value_for}
 use Rattle.cgl_mps.proofs.TurnLaws.{value_turn, no_value}
 use Rattle.cgl_mps.proofs.pairs.Pairs.find.Goals as goal
 

@@ -1,5 +1,5 @@
 use Rattle.std.proofs.Common.{◌≡◌, drop}
-use Rattle.cgl_mps.specs.Models.{value_for}
+use Rattle.cgl_decode.specs.Models.{value_for}
 use Rattle.cgl_mps.proofs.pairs.Pairs.find.Given as goal
 
 abbrev pub invariant-loop-pair : goal.invariant-loop-pair

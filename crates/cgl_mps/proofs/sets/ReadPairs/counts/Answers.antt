@@ -1,5 +1,5 @@
 use Rattle.std.proofs.Common.{ap, ap₂, ◌∙◌}
-use Rattle.cgl_mps.specs.Sections.{same_set}
+use Rattle.cgl_decode.specs.Sections.{same_set}
 use Rattle.cgl_mps.specs.Carried.{counting_set}
 use Rattle.cgl_mps.proofs.sets.ReadPairs.counts.Goals as goal
 

@@ -4,7 +4,7 @@ use Rattle.cgl_outside.specs.declared.fail.Call.TheVariants.{Read}
 use Rattle.cgl_outside.specs.MemShelf.{MemFiles}
 use Rattle.cgl_outside.specs.Shelf.{Lacks, file_of}
 use Rattle.cgl_outside.proofs.CountRules.{no_fault, one_fault, excused, not_found, found_by}
-use Rattle.cgl_outside.proofs.FilesRules.{read_piece}
+use Rattle.cgl_outside.proofs.FilesRules.{longest_piece, read_piece}
 use Rattle.cgl_outside.proofs.MemShelfRules.{next_is, read_begun, read_failed}
 use Rattle.cgl_outside.proofs.mem_shelf.MemShelfShelf.read_at.Goals as goal
 
@@ -17,6 +17,8 @@ returns-in_default c =
     record {
       within = tt;
       piece = tt;
+      longest = tt;
+      untouched = refl;
       found = tt;
       held = ap (λ (s : MemFiles). Some s.files) call;
       reads = excused _ _ (ap (λ (s : MemFiles). s.failed_reads) call) lacks;
@@ -35,6 +37,8 @@ returns-then-is_some c =
     record {
       within = tt;
       piece = tt;
+      longest = tt;
+      untouched = refl;
       found = tt;
       held = ap (λ (s : MemFiles). Some s.files) failed;
       reads = one_fault _ _ (ap (λ (s : MemFiles). s.failed_reads) failed) (λ lacks. not_found _ _ lacks found);
@@ -53,6 +57,8 @@ returns c =
     record {
       within = c.copy_piece.ensures.within;
       piece = λ bytes is. read_piece bytes _ _ _ _ (there ∙ is) c.copy_piece.ensures.piece;
+      longest = λ bytes is. longest_piece bytes _ _ _ _ _ (there ∙ is) c.copy_piece.ensures.longest;
+      untouched = tt;
       found = λ _. found_by _ _ there;
       held = ap (λ (s : MemFiles). Some s.files) call;
       reads = no_fault _ _ (ap (λ (s : MemFiles). s.failed_reads) call);

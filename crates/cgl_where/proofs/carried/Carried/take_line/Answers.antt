@@ -1,9 +1,9 @@
 use Rattle.std.proofs.Common.{◌≡◌, ◌≤◌, ◌==◌, ◌∙◌, ap, sym, arith, ℕ, length, true, not, Option, None}
-use Rattle.cgl_num.specs.Conditions.{first_kind}
+use Rattle.cgl_text.specs.Conditions.{first_kind}
 use Rattle.cgl_where.specs.PointFile.{Record, is_kept, record_of}
 use Rattle.cgl_where.specs.Carried.{FollowsLine, TakesIn, carried_conditions}
-use Rattle.cgl_num.specs.Text.{kept_fields}
-use Rattle.cgl_num.specs.Seen.{words}
+use Rattle.cgl_text.specs.Text.{kept_fields}
+use Rattle.cgl_text.specs.Seen.{words}
 use Rattle.cgl_where.proofs.CarriedLaws.{follows_blank, follows_long, follows_over, follows_value, if_ok_both, kept_is}
 use Rattle.cgl_where.proofs.carried.Carried.take_line.Goals as goal
 

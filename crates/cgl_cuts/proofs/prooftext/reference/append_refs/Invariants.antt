@@ -1,7 +1,0 @@
-use Rattle.std.proofs.Common.{flat_map, take}
-use Rattle.cgl_num.specs.Growth.{Grows}
-use Rattle.cgl_cuts.specs.ProofText.{fields_text, ref_fields}
-use Rattle.cgl_cuts.proofs.prooftext.reference.append_refs.Given as goal
-
-abbrev pub invariant-loop-part : goal.invariant-loop-part
-invariant-loop-part l = Grows (fields_text (flat_map ref_fields (take l.part-index l.refs))) l.initial.text l.text

@@ -1,6 +1,0 @@
-use Rattle.std.proofs.Common.{sym, ap}
-use Rattle.cgl_cuts.specs.ProofText.{end_text}
-use Rattle.cgl_cuts.proofs.prooftext.reference.end_letter.Goals as goal
-
-pub returns-in-Lower : goal.returns-in-Lower
-returns-in-Lower c = sym (ap end_text c.in-Lower.is)

@@ -1,9 +1,0 @@
-pub mod Meaning
-pub mod Derives
-pub mod CutLaws
-pub mod RoundMember
-pub mod InequalityOrder
-pub mod Listed
-pub mod Offered
-pub mod ProofText
-pub mod KnownProof

@@ -1,0 +1,15 @@
+pub mod NameLaws
+pub mod CountLaws
+pub mod ReadingLaws
+pub mod FrontLaws
+pub mod BoundLaws
+pub mod ModelLaws
+pub mod JudgedLaws
+pub mod DistinctLaws
+pub mod SizeLaws
+pub mod SoundLaws
+pub mod EntryLaws
+pub mod BoundValueLaws
+pub mod ValidLaws
+pub mod DecimalLaws
+pub mod DeckResultLaws

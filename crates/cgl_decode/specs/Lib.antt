@@ -1,0 +1,14 @@
+pub mod Records
+pub mod Sections
+pub mod Faults
+pub mod Models
+pub mod Decode
+pub mod Reading
+pub mod Front
+pub mod Meaning
+pub mod DeckResult
+pub mod Found
+pub mod Written
+pub mod Decks
+pub mod FaultyDecks
+pub mod Scale

@@ -1,0 +1,14 @@
+pub mod TestLaws
+pub mod CoefficientLaws
+pub mod AmountLaws
+pub mod SumLaws
+pub mod WeightedLaws
+pub mod ProveLaws
+pub mod NarrowLaws
+pub mod RoundingLaws
+pub mod DivisionLaws
+pub mod RoundSound
+pub mod Sound
+pub mod LayerLaws
+pub mod ColumnLaws
+pub mod KnownLaws

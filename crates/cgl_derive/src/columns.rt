@@ -1,0 +1,33 @@
+ghost use Rattle.std.specs.Prelude.{◌≡◌, ◌↔◌, IsTrue, length, nat_lt};
+ghost use Rattle.std.specs.List.{list_all};
+ghost use Rattle.cgl_derive.specs.Derives.{AreColumns, AreIntegers, is_integer};
+
+use cgl_model::Model;
+use sqlite_items::at;
+
+/// Whether the column is an integer one of the model; not so where there is no such column.
+pub fn is_integer(model: &Model, column: u32) -> bool
+    ensures { result ≡ is_integer model.now column }
+{
+    match at(model.cols.as_slice(), column as usize) {
+        Some(column) => column.integer,
+        None => false,
+    }
+}
+
+/// Whether each column of the terms is an integer one of the model.
+pub fn are_integers(model: &Model, terms: &[(u32, i128)]) -> bool
+    ensures test { result ≡ list_all (λ t. is_integer model.now t.0) terms.now }
+    ensures integers { IsTrue result ↔ AreIntegers model.now terms.now }
+{
+    terms.iter().all(|term| is_integer(model, term.0))
+}
+
+/// Whether each column of the terms is one of the model.
+pub fn are_columns(model: &Model, terms: &[(u32, i128)]) -> bool
+    ensures test { result ≡ list_all (λ t. nat_lt t.0 (length model.now.cols)) terms.now }
+    ensures columns { IsTrue result ↔ AreColumns model.now terms.now }
+{
+    let count = model.cols.as_slice().len();
+    terms.iter().all(|term| (term.0 as usize) < count)
+}

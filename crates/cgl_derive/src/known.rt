@@ -1,0 +1,52 @@
+//! Known derivations.
+
+ghost use Rattle.std.specs.Prelude.{ℤ, pos, negsuc, ◌^◌, [], ◌∷◌};
+ghost use Rattle.cgl_model.specs.declared.linear.Ineq.{Ineq};
+ghost use Rattle.cgl_model.specs.declared.places.End.TheVariants.{Upper};
+ghost use Rattle.cgl_derive.specs.declared.step.Ref.TheVariants.{Given, Shared, Step as Claim};
+ghost use Rattle.cgl_derive.specs.Derives.{Derives, LinIsRight};
+ghost use Rattle.cgl_derive.specs.Layers.{derivation};
+ghost use Rattle.cgl_derive.specs.KnownDerivations.{at_least, at_most_one, by_cases, by_three, contradiction, end_of_row, halved, infeasible, nested, one_column, other_column, over_continuous, repeated_column, summed, too_great, too_wide, two_columns};
+
+/// Over `2x <= 3` with x integer, `-x >= -1` follows by rounding and by cases; and what is not right proves nothing: no
+/// steps, a divisor of another number, another claim, a reference to nothing, a negative multiplier, a sum of
+/// magnitudes that reaches 2^127, and a column that the model does not have.
+pub fn known_derivations()
+    ensures rounded { Derives one_column [] halved at_most_one }
+    ensures cases { Derives one_column [] by_cases at_most_one }
+    ensures shared { Derives one_column (at_most_one ∷ []) (summed ((Shared 0, pos 1) ∷ []) at_most_one) at_most_one }
+    ensures empty { (goal : Ineq) → ¬ Derives one_column [] (derivation []) goal }
+    ensures divisor { (goal : Ineq) → ¬ Derives one_column [] by_three goal }
+    ensures claim { (goal : Ineq) → ¬ Derives one_column [] too_great goal }
+    ensures step { (goal : Ineq) → ¬ Derives one_column [] (summed ((Claim 0, pos 1) ∷ []) at_most_one) goal }
+    ensures given { (goal : Ineq) → ¬ Derives one_column [] (summed ((Given 0, pos 1) ∷ []) at_most_one) goal }
+    ensures none_shared { (goal : Ineq) → ¬ Derives one_column [] (summed ((Shared 0, pos 1) ∷ []) at_most_one) goal }
+    ensures negative { (goal : Ineq) → ¬ Derives one_column [] (summed ((end_of_row Upper, negsuc 0) ∷ []) at_most_one) goal }
+    ensures multiplier { (goal : Ineq) → ¬ Derives one_column [] (summed ((end_of_row Upper, pos (2 ^ 126)) ∷ []) at_most_one) goal }
+    ensures wide { (goal : Ineq) → ¬ Derives one_column [] too_wide goal }
+    ensures column { (goal : Ineq) → ¬ Derives one_column [] (summed [] other_column) goal }
+    ensures shared_column { (goal : Ineq) → ¬ Derives one_column (other_column ∷ []) (summed ((Shared 0, pos 1) ∷ []) other_column) goal }
+{}
+
+/// At most 64 splits are inside each other.
+pub fn known_depths()
+    ensures deep { Derives one_column [] (nested 63 0) at_most_one }
+    ensures too_deep { (goal : Ineq) → ¬ Derives one_column [] (nested 64 0) goal }
+{}
+
+/// Over `2x - s <= 3`, nothing is divided, not even by 1, since s is continuous.
+pub fn known_continuous()
+    ensures { (goal : Ineq) → ¬ Derives two_columns [] over_continuous goal }
+{}
+
+/// `2x = 1` with x integer has no point, and each inequality follows.
+pub fn known_contradiction()
+    ensures each { (goal : Ineq) → Derives infeasible [] contradiction goal }
+    ensures great { Derives infeasible [] contradiction (at_least (pos 1) (pos 7)) }
+    ensures small { Derives infeasible [] contradiction (at_least (negsuc 0) (pos 100)) }
+{}
+
+/// The coefficient of a column that a list of terms has twice is the sum of both: `x >= 1` does not give `x - 5x >= 1`.
+pub fn known_coefficients()
+    ensures { ¬ LinIsRight one_column ((at_least (pos 1) (pos 1), pos 1) ∷ []) (pos 1) repeated_column }
+{}

@@ -1,0 +1,24 @@
+//! Derivations of inequalities from the ends of a model, and weighted sums of inequalities.
+#![tactic(auto)]
+
+mod answer;
+mod coefficients;
+mod columns;
+mod division;
+mod known;
+mod laws;
+mod step;
+mod sum;
+mod total;
+
+pub use answer::{Answer, Candidate};
+pub use coefficients::coefficient_of;
+pub use columns::{are_columns, are_integers, is_integer};
+pub use division::{ceiling, divides, divides_all, divisor_of, rounded};
+pub use known::{
+    known_coefficients, known_continuous, known_contradiction, known_depths, known_derivations,
+};
+pub use laws::{coefficient_laws, divisors, lists, rounding, soundness, steps, weighted_sums};
+pub use step::{Derivation, Lin, Ref, Round, Split, Step};
+pub use sum::Sum;
+pub use total::Total;

@@ -1,5 +1,0 @@
-use Rattle.cgl_num.proofs.TextLaws.{other_blank}
-use Rattle.cgl_num.proofs.text.words.is_blank.Goals as goal
-
-pub returns-else-b-eq9 : goal.returns-else-b-eq9
-returns-else-b-eq9 c = other_blank c.args.b c.if-b-eq9.false

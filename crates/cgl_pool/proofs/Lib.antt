@@ -1,0 +1,9 @@
+pub mod OrderLaws
+pub mod SortedLaws
+pub mod MemberLaws
+pub mod ListingLaws
+pub mod WideLaws
+pub mod SortLaws
+pub mod ServedLaws
+pub mod ListedLaws
+pub mod TaskLaws

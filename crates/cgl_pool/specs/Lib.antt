@@ -1,0 +1,9 @@
+pub mod InequalityOrder
+pub mod Listed
+pub mod Sorting
+pub mod Does
+pub mod Turns
+pub mod Served
+pub mod Generators
+pub mod Task
+pub mod Laws

@@ -1,0 +1,60 @@
+-- The text of a known proof.
+use Rattle.std.proofs.Common.{◌≡◌, [], ◌∷◌, ◌++◌, codes, flat_map, pos, refl, ap, ◌∙◌}
+use Rattle.std.proofs.lemmas.List.{append-nil}
+use Rattle.std.specs.Fmt.{digits, decimal}
+use Rattle.cgl_derive.specs.declared.step.Lin.{Lin}
+use Rattle.cgl_derive.specs.declared.step.Step.{Step, roll-Step, out-roll-Step}
+use Rattle.cgl_derive.specs.declared.step.Step.TheOpen as step
+use Rattle.cgl_derive.specs.declared.step.Split.{Split, roll-Split}
+use Rattle.cgl_derive.specs.declared.step.Derivation.{Derivation, roll-Derivation, out-roll-Derivation}
+use Rattle.cgl_prooftext.specs.ProofText.{Text, fields_text, line, terms_fields, ineq_fields, refs_fields, lin_text, round_text, split_line, split_around, step_text, split_text, derivation_text, cut_text, proof_text, step_layer, derivation_layer, split_layer}
+use Rattle.cgl_derive.specs.declared.step.Step.TheFolds.{fold-roll-Split}
+use Rattle.cgl_derive.specs.Derives.{Layer}
+use Rattle.cgl_prooftext.specs.KnownProof.{KnownProof, KnownRound, KnownReferences, known_cut, known_lin_left, known_lin_right, known_split, known_derivation, one_step}
+use Rattle.cgl_prooftext.proofs.ProofTextLaws.{step_text_is, derivation_text_is, layer_text}
+
+roll_derivation : (d : step.Derivation-F Step Derivation Split) → derivation_text (roll-Derivation d) ≡ flat_map step_text d.steps
+roll_derivation d = derivation_text_is (roll-Derivation d) ∙ ap (λ z. flat_map step_text z.steps) (out-roll-Derivation d)
+
+roll_lin : (lin : Lin) → step_text (roll-Step (step.Lin lin)) ≡ lin_text lin
+roll_lin lin = step_text_is (roll-Step (step.Lin lin)) ∙ ap layer_text (out-roll-Step (step.Lin lin))
+
+left_line : lin_text known_lin_left ≡ codes "lin 2 1 g0 2 1 0 -1 >= -1\n"
+unfolding fields_text line terms_fields ineq_fields refs_fields lin_text digits
+left_line = refl
+
+right_line : lin_text known_lin_right ≡ codes "lin 2 2 g0 2 r0U 2 1 0 -1 >= -1\n"
+unfolding fields_text line terms_fields ineq_fields refs_fields lin_text digits
+right_line = refl
+
+one_step_text : (s : Layer) (text : Text) → step_text (roll-Step s) ≡ text → derivation_text (one_step s) ≡ text
+one_step_text s text e = roll_derivation _ ∙ append-nil (step_text (roll-Step s)) ∙ e
+
+roll_split : (s : step.Split-F Step Derivation Split) → split_text (roll-Split s) ≡ split_around (split_line s.p s.p0 s.claim) (derivation_text s.left) (derivation_text s.right)
+unfolding split_text derivation_text
+roll_split s = fold-roll-Split Text Text Text step_layer derivation_layer split_layer s
+
+roll_step_split : (s : Split) → step_text (roll-Step (step.Split s)) ≡ split_text s
+roll_step_split s = step_text_is (roll-Step (step.Split s)) ∙ ap layer_text (out-roll-Step (step.Split s))
+
+branches : (head left right : Text) (a b : Text) → left ≡ a → right ≡ b → split_around head left right ≡ split_around head a b
+branches head left right a b e f = ap (λ z. split_around head z right) e ∙ ap (λ z. split_around head a z) f
+
+derivation_known : derivation_text known_derivation ≡ split_around (split_line ((0, pos 1) ∷ []) (pos 1) known_cut) (codes "lin 2 1 g0 2 1 0 -1 >= -1\n") (codes "lin 2 2 g0 2 r0U 2 1 0 -1 >= -1\n")
+derivation_known =
+    one_step_text (step.Split known_split) _ (roll_step_split known_split ∙ roll_split _ ∙ branches _ _ _ _ _ (one_step_text (step.Lin known_lin_left) _ (roll_lin known_lin_left ∙ left_line)) (one_step_text (step.Lin known_lin_right) _ (roll_lin known_lin_right ∙ right_line)))
+
+around : Text → Text
+around z = line (codes "cgl-proof") (codes "1" ∷ []) ++ line (codes "cuts") (decimal 1 ∷ []) ++ (line (codes "cut") (ineq_fields known_cut) ++ z ++ line (codes "qed") [] ++ []) ++ line (codes "end") []
+
+pub known_text : KnownProof
+unfolding around fields_text line terms_fields ineq_fields split_line cut_text proof_text digits
+known_text = ap around derivation_known
+
+pub known_round : KnownRound
+unfolding fields_text line terms_fields ineq_fields round_text digits
+known_round = refl
+
+pub known_references : KnownReferences
+unfolding digits
+known_references = refl

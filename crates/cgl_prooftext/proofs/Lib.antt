@@ -1,0 +1,2 @@
+pub mod ProofTextLaws
+pub mod KnownText

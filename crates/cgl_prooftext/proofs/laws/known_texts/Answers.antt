@@ -1,0 +1,11 @@
+use Rattle.cgl_prooftext.proofs.KnownText.{known_text, known_round, known_references}
+use Rattle.cgl_prooftext.proofs.laws.known_texts.Goals as goal
+
+pub returns-clause-proof : goal.returns-clause-proof
+returns-clause-proof c = known_text
+
+pub returns-clause-round : goal.returns-clause-round
+returns-clause-round c = known_round
+
+pub returns-clause-references : goal.returns-clause-references
+returns-clause-references c = known_references

@@ -1,0 +1,10 @@
+//! Known texts.
+
+ghost use Rattle.cgl_prooftext.specs.KnownProof.{KnownProof, KnownReferences, KnownRound};
+
+/// The text of a proof that splits into two cases, each a weighted sum; of a rounding step; and of references.
+pub fn known_texts()
+    ensures proof { KnownProof }
+    ensures round { KnownRound }
+    ensures references { KnownReferences }
+{}

@@ -1,0 +1,5 @@
+pub mod Text
+pub mod Seen
+pub mod Conditions
+pub mod Growth
+pub mod GrowthLaws
