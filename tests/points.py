@@ -4,7 +4,7 @@
 Usage: points.py PROGRAM FOLDER
 
 The plain program judges each line by the definition alone: it reads all lines before it anew. It is slow, and the
-yardstick of the reader. The point that the program has read is seen in its report: a deck of the integer columns a, b
+reader is measured by it. The point that the program has read is seen in its report: a deck of the integer columns a, b
 and c with the rows 2x <= 1 and 2x >= -1 for each gives a cut with the violation x or -x for each x but 0.
 """
 import math
