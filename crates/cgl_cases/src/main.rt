@@ -4,6 +4,7 @@
 
 mod bytes;
 mod models;
+mod names;
 mod numbers;
 mod runs;
 
@@ -19,6 +20,7 @@ fn tell(rt: &impl Print, alloc: Global, files: &mut SureShelf, line: &str) -> Op
         "sums" => numbers::tell_sums(rt, rest),
         "number" => numbers::tell_number(rt, rest),
         "violation" => models::tell_violation(rt, alloc, rest),
+        "names" => names::tell_names(rt, alloc, rest),
         "deck" => models::tell_deck(rt, alloc, files, rest),
         "file" => runs::put_file(alloc, files, rest),
         "run" => runs::tell_run(rt, alloc, files, rest),

@@ -1,13 +1,10 @@
 -- Steps of the search for unused names.
-use Rattle.std.proofs.Common.{◌≡◌, List, ℕ, suc, ◌+◌, ◌-◌, ◌<◌, ◌≤◌, [], ◌∷◌, ◌++◌, length, filter, take, drop, get_or, map, ap, ap₂, sym, ◌∙◌, Bool, true, false, ◌||◌, cond, not, arith, inl, inr, append-nil, append_assoc, length-append, subst}
-use Rattle.std.specs.Str.{bytes_eq}
+use Rattle.std.proofs.Common.{◌≡◌, List, ℕ, suc, ◌+◌, ◌-◌, ◌<◌, ◌≤◌, [], ◌∷◌, ◌++◌, length, filter, take, map, ap, ap₂, sym, ◌∙◌, true, false, not, arith, inl, inr, append-nil, append_assoc, length-append, subst}
 use Rattle.std.proofs.lemmas.Bool.{cases_Bool}
 use Rattle.cgl_num.specs.NumberText.{Word}
 use Rattle.cgl_text.specs.Text.{is_one_of}
 use Rattle.cgl_model.specs.declared.mip.Model.{Model}
-use Rattle.cgl_model.specs.declared.mip.Row.{Row}
 use Rattle.cgl_deck.specs.CutNames.{cut_name, cut_names, is_unused, numbers_from}
-use Rattle.cgl_deck.proofs.TurnLaws.{next_item}
 
 abbrev pub unused_from : Model → ℕ → ℕ → List Word
 unused_from m k tries = filter (is_unused m) (map cut_name (numbers_from k tries))
@@ -50,32 +47,17 @@ names_start m n found tries none all =
       within = within;
     }
 
-pub names_turn_at : (m : Model) (n : ℕ) (found next all : List Word) (number last : ℕ) (name : Word) → length found < n → number < last
-    → name ≡ cut_name (number + 1) → next ≡ found ++ filter (is_unused m) (name ∷ [])
+pub names_turn_at : (m : Model) (n : ℕ) (found next all used : List Word) (number last : ℕ) (name : Word) → length found < n → number < last
+    → name ≡ cut_name (number + 1) → used ≡ map (λ r. r.name) m.rows → next ≡ found ++ filter (λ w. not (is_one_of used w)) (name ∷ [])
     → IsFound m n (number + 1) (last - number) found all → IsFound m n (number + 1 + 1) (last - (number + 1)) next all
-names_turn_at m n found next all number last name room tries name_is now before =
+names_turn_at m n found next all used number last name room tries name_is used_is now before =
     let left : last - number ≡ suc (last - (number + 1)) = omega arith in
     let turned : IsFound m n (number + 1 + 1) (last - (number + 1)) (found ++ filter (is_unused m) (cut_name (number + 1) ∷ [])) all =
     names_turn m n found all (number + 1) (last - (number + 1)) room (rw left at before) in
-    subst (λ f. IsFound m n (number + 1 + 1) (last - (number + 1)) f all) (ap (λ w. found ++ filter (is_unused m) (w ∷ [])) (sym name_is) ∙ sym now) turned
+    let more : found ++ filter (is_unused m) (cut_name (number + 1) ∷ []) ≡ next =
+    ap₂ (λ ws w. found ++ filter (λ v. not (is_one_of ws v)) (w ∷ [])) (sym used_is) (sym name_is) ∙ sym now in
+    subst (λ f. IsFound m n (number + 1 + 1) (last - (number + 1)) f all) more turned
 
--- a row of another name is passed
-pub other_row_turn : (rows : List Row) (i : ℕ) (row : Row) (name own : Word) (same all : Bool) → i < length rows → row ≡ get_or rows i row → own ≡ row.name
-    → same ≡ bytes_eq name own → same ≡ false → is_one_of (map (λ r. r.name) (drop i rows)) name ≡ all → is_one_of (map (λ r. r.name) (drop (i + 1) rows)) name ≡ all
-other_row_turn rows i row name own same all lt at own_is same_is other before =
-    let here : bytes_eq name row.name ≡ false = ap (bytes_eq name) (sym own_is) ∙ sym same_is ∙ other in
-    ap (λ b. b || is_one_of (map (λ r. r.name) (drop (i + 1) rows)) name) (sym here)
-    ∙ ap (λ l. is_one_of (map (λ r. r.name) l) name) (sym (next_item rows i row row lt at)) ∙ before
-
-pub own_row_found : (rows : List Row) (i : ℕ) (row : Row) (name own : Word) (same all : Bool) → i < length rows → row ≡ get_or rows i row → own ≡ row.name
-    → same ≡ bytes_eq name own → same ≡ true → is_one_of (map (λ r. r.name) (drop i rows)) name ≡ all → true ≡ all
-own_row_found rows i row name own same all lt at own_is same_is found before =
-    let here : bytes_eq name row.name ≡ true = ap (bytes_eq name) (sym own_is) ∙ sym same_is ∙ found in
-    ap (λ b. b || is_one_of (map (λ r. r.name) (drop (i + 1) rows)) name) (sym here)
-    ∙ ap (λ l. is_one_of (map (λ r. r.name) l) name) (sym (next_item rows i row row lt at)) ∙ before
-
-pub unused_added : (m : Model) (name own : Word) (rows : List Row) (used : Bool) (names more : List Word) → rows ≡ m.rows → own ≡ name
-    → used ≡ is_one_of (map (λ r. r.name) rows) own → used ≡ false → more ≡ names ++ name ∷ [] → more ≡ names ++ filter (is_unused m) (name ∷ [])
-unused_added m name own rows used names more same own_is is unused now =
-    let other : is_one_of (map (λ r. r.name) m.rows) name ≡ false = ap₂ (λ l w. is_one_of (map (λ r. r.name) l) w) (sym same) (sym own_is) ∙ sym is ∙ unused in
-    now ∙ ap (λ b. names ++ cond (not b) (name ∷ []) []) (sym other)
+pub no_names : (m : Model) (n : ℕ) (found : List Word) → found ≡ [] → n ≡ 0 → found ≡ cut_names m n
+unfolding cut_names
+no_names m n found none zero = none ∙ sym (ap (λ k. take k (filter (is_unused m) (map cut_name (numbers_from 1 (length m.rows + k))))) zero)

@@ -12,7 +12,7 @@ use Rattle.cgl_decode.specs.Decode.{Deck, decode}
 use Rattle.cgl_deck.specs.CutNames.{cut_names}
 use Rattle.cgl_deck.specs.DeckLines.{deck_lines, line_bytes, numbered, text_of}
 use Rattle.cgl_deck.specs.DeckText.{deck_text}
-use Rattle.cgl_deck.specs.Extended.{AreInRows, AreMet, AreRising, IsTooMany, cut_row, decimal_terms, extended, extended_column, is_decimal, is_known, is_within_sizes}
+use Rattle.cgl_deck.specs.Extended.{AreInRows, AreMet, AreRising, IsTooMany, cut_row, decimal_terms, extended, extended_column, is_decimal, is_known}
 
 -- where cuts are refused, the model has no extension by them
 pub record Refuses : Type 0 where

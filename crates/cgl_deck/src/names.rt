@@ -1,9 +1,10 @@
-ghost use Rattle.std.specs.Prelude.{◌≡◌, ◌<◌, [], ◌∷◌, ◌++◌, filter, map, IfOk, OnErr, OnOk};
+ghost use Rattle.std.specs.Prelude.{◌≡◌, ◌<◌, [], ◌∷◌, ◌++◌, filter, map, not, IfOk, OnErr, OnOk};
 ghost use Rattle.cgl_text.specs.Text.{is_one_of};
-ghost use Rattle.cgl_deck.specs.CutNames.{cut_name, cut_names, is_unused};
+ghost use Rattle.cgl_deck.specs.CutNames.{cut_name, cut_names};
 
 use cgl_model::{Model, Name, Row, Seq};
 use cgl_num::Memory;
+use cgl_text::Names;
 use itoa::Buffer;
 use std::alloc::Global;
 
@@ -30,28 +31,28 @@ fn cut_name(alloc: Global, number: u64) -> Result<Name, Memory>
     Ok(Seq::from_vec(bytes))
 }
 
-fn is_row_name(rows: &[Row], name: &[u8]) -> bool
-    ensures { result ≡ is_one_of (map (λ r. r.name) rows.now) name.now }
+/// The names of the rows.
+fn row_names<'a>(alloc: Global, rows: &'a [Row]) -> Result<Names<'a>, Memory>
+    ensures { IfOk result (λ names. names ≡ map (λ r. r.name) rows.now) }
 {
+    let mut names = Names::new(alloc);
     for row in rows {
-        if name == row.name.as_slice() {
-            return true;
-        }
+        names.push(row.name.as_slice())?;
     }
-    false
+    Ok(names)
 }
 
-/// Adds the cut's name of this number where no row has it.
+/// Adds the cut's name of this number where it is not used.
 fn add_unused(
     alloc: Global,
     names: &mut Seq<Name>,
-    model: &Model,
+    used: &Names<'_>,
     number: u64,
 ) -> Result<(), Memory>
-    ensures { OnOk result (names.new ≡ names.old ++ filter (is_unused model.now) (cut_name number ∷ [])) }
+    ensures { OnOk result (names.new ≡ names.old ++ filter (λ name. not (is_one_of used.now name)) (cut_name number ∷ [])) }
 {
     let name = cut_name(alloc, number)?;
-    if is_row_name(model.rows.as_slice(), name.as_slice()) {
+    if used.has(name.as_slice()) {
         return Ok(());
     }
     names.push(name)
@@ -67,12 +68,17 @@ pub fn cut_names(alloc: Global, model: &Model, n: u32) -> Result<Seq<Name>, Memo
     ensures memory { OnErr result (0 < n) }
 {
     let mut names = Seq::new(alloc);
-    let last = model.rows.as_slice().len() as u64 + n as u64;
+    if n == 0 {
+        return Ok(names);
+    }
+    let rows = model.rows.as_slice();
+    let used = row_names(alloc, rows)?;
+    let last = rows.len() as u64 + n as u64;
     for number in 0..last {
         if names.as_slice().len() == n as usize {
             break;
         }
-        add_unused(alloc, &mut names, model, number + 1)?;
+        add_unused(alloc, &mut names, &used, number + 1)?;
     }
     Ok(names)
 }

@@ -1,4 +1,6 @@
 pub mod TextLaws
 pub mod NameLaws
+mod OwnedLaws
+mod PlaceLaws
 pub mod FrontLaws
 pub mod RecordLaws

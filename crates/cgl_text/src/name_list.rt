@@ -1,40 +1,33 @@
-//! A table of names.
+//! A list of names, each found by its place.
 
 ghost use Rattle.std.specs.Prelude.{◌≡◌, ◌∷◌, ◌++◌, [], OnErr, OnOk, bytes_eq, length, position};
 ghost use Rattle.cgl_text.specs.Text.{is_one_of};
 ghost use Rattle.cgl_text.specs.Seen.{words};
 
-use crate::words::same_bytes;
 use cgl_num::Memory;
+use indexmap::IndexMap;
 use std::alloc::Global;
 use std::marker::Model;
 
-/// Names in the order in which they came, each found by its place. Contracts see them as a list.
+/// Names in the order in which they came, each found by its place. A name may come again. Contracts see them as a list.
 #[derive(Drop)]
 pub struct Names<'a> {
     names: Vec<&'a [u8]>,
+    /// The first place of each name.
+    places: IndexMap<&'a [u8], usize>,
 }
 
 impl<'a> Model for Names<'a> {
     ghost use Rattle.std.specs.Prelude.{List};
     ghost use Rattle.cgl_num.specs.NumberText.{Word};
+    ghost use Rattle.cgl_text.specs.Places.{ArePlaces};
     ghost use Rattle.cgl_text.specs.Seen.{words};
 
     ghost Value = { List Word };
 
     ghost view = { λ it. words it.names.items };
-}
 
-/// The first place of the name, from 0.
-fn position_of(names: &[&[u8]], name: &[u8]) -> Option<usize>
-    ensures { result ≡ position (bytes_eq name.now) (words names.now) }
-{
-    for (i, other) in names.iter().enumerate() {
-        if same_bytes(name, other) {
-            return Some(i);
-        }
-    }
-    None
+    ghost invariant = { λ it. ArePlaces (words it.names.items) it.places };
 }
 
 impl<'a> Names<'a> {
@@ -44,6 +37,7 @@ impl<'a> Names<'a> {
     {
         Names {
             names: Vec::new(alloc),
+            places: IndexMap::new(alloc),
         }
     }
 
@@ -56,7 +50,15 @@ impl<'a> Names<'a> {
         ensures ok { OnOk result (self.new ≡ self.old ++ name.now ∷ []) }
         ensures err { OnErr result (self.new ≡ self.old) }
     {
+        let place = self.names.len();
         let Ok(()) = self.names.push(name) else {
+            return Err(Memory);
+        };
+        if self.places.contains_key(name) {
+            return Ok(());
+        }
+        let Ok(_) = self.places.insert(name, place) else {
+            self.names.pop();
             return Err(Memory);
         };
         Ok(())
@@ -73,7 +75,7 @@ impl<'a> Names<'a> {
     pub fn find(&self, name: &[u8]) -> Option<usize>
         ensures { result ≡ position (bytes_eq name.now) self.now }
     {
-        position_of(self.names.as_slice(), name)
+        self.places.get(name).copied()
     }
 
     /// Whether the name is one of these.
