@@ -3,10 +3,12 @@
 #![tactic(auto)]
 
 mod bytes;
+mod lines;
 mod models;
 mod names;
 mod numbers;
 mod runs;
+mod vast;
 
 use cgl_outside::SureShelf;
 use std::alloc::Global;
@@ -22,6 +24,9 @@ fn tell(rt: &impl Print, alloc: Global, files: &mut SureShelf, line: &str) -> Op
         "violation" => models::tell_violation(rt, alloc, rest),
         "names" => names::tell_names(rt, alloc, rest),
         "deck" => models::tell_deck(rt, alloc, files, rest),
+        "lines" => lines::tell_lines(rt, alloc, rest),
+        "dribble" => lines::tell_dribbled(rt, alloc, rest),
+        "vast" => vast::tell_vast(rt, alloc, rest),
         "file" => runs::put_file(alloc, files, rest),
         "run" => runs::tell_run(rt, alloc, files, rest),
         "sure" => runs::tell_sure_run(rt, alloc, files, rest),

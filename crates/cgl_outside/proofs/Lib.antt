@@ -1,8 +1,13 @@
+pub mod AheadLaws
+pub mod AnswerLaws
 pub mod CountRules
 pub mod FilesLaws
 pub mod FilesRules
+pub mod HandedLaws
+pub mod LineLaws
 pub mod MemShelfRules
 pub mod ShelfLaws
 pub mod ShelfRules
 pub mod SinkLaws
 pub mod SureShelfRules
+pub mod TurnLaws

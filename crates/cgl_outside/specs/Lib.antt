@@ -2,10 +2,14 @@ pub mod Counted
 pub mod Edge
 pub mod Fails
 pub mod Files
+pub mod Front
+pub mod Handed
 pub mod Laws
+pub mod Line
 pub mod Means
 pub mod MemShelf
 pub mod MemSink
+pub mod Reading
 pub mod Refused
 pub mod Says
 pub mod Script
@@ -14,5 +18,6 @@ pub mod Shelf
 pub mod Sink
 pub mod SureShelf
 pub mod SureSink
+pub mod Turns
 pub mod View
 pub mod Whole

@@ -5,17 +5,45 @@ ghost use Rattle.cgl_outside.specs.Shelf.{Counts};
 use crate::{Failed, Shelf, Sink};
 use std::fs::{File, OpenOptions};
 use std::io;
-use std::io::Write;
+use std::io::{Read, Write};
 use std::marker::Model;
 use std::os::unix::fs::FileExt;
 
+/// A file that is open where the last read of it ended.
+#[derive(Drop)]
+struct OpenInput {
+    name: String,
+    file: File,
+    at: u64,
+}
+
+impl OpenInput {
+    /// Whether a read of a file from a place on goes on here.
+    fn is_at(&self, name: &str, at: u64) -> bool {
+        at > 0 && self.at == at && self.name.as_str() == name
+    }
+}
+
+/// A file that is open where the last write to it ended.
+#[derive(Drop)]
+struct OpenOutput {
+    name: String,
+    file: File,
+}
+
 /// The files of the system. A name is a path. It tells no files to proofs, and each error of the
 /// system, for a missing file too, counts as a failed call.
+///
+/// A file that is read from its start upwards is opened once, so that another that takes its name
+/// meanwhile counts for nothing, and a pipe can be read. So is a file that is created and then
+/// appended to. Where memory for its name is refused, it is opened at each call.
 #[derive(Drop)]
 pub struct DirShelf<'a> {
     rt: &'a HostRuntime,
     read_faults: u64,
     write_faults: u64,
+    reading: Option<OpenInput>,
+    writing: Option<OpenOutput>,
 }
 
 impl<'a> Model for DirShelf<'a> {
@@ -40,19 +68,66 @@ fn counted<T>(answer: io::Result<T>, faults: &mut u64) -> Result<T, Failed>
     }
 }
 
-/// Gives 0 at and past the end of the file.
-fn read_piece(rt: &HostRuntime, name: &str, at: u64, buf: &mut [u8]) -> io::Result<usize>
+/// Reads on in an open file, which is kept open if the read does not fail.
+fn read_on(mut open: OpenInput, kept: &mut Option<OpenInput>, buf: &mut [u8]) -> io::Result<usize>
     ensures { IfOk result (λ n. n ≤ length buf.new) }
 {
-    File::open(rt, name)?.read_at(buf, at)
+    let count = open.file.read(buf)?;
+    open.at = open.at.saturating_add(count as u64);
+    *kept = Some(open);
+    Ok(count)
 }
 
-/// A file that takes nothing of a piece is an error.
-fn write_more(rt: &HostRuntime, name: &str, bytes: &[u8]) -> io::Result<()> {
-    OpenOptions::new()
-        .append(true)
-        .open(rt, name)?
-        .write_all(bytes)
+/// Reads a piece of the file that is kept open where the read goes on in it, or of one that is opened
+/// for it, and kept open if it is read from its start. Gives 0 at and past the end of the file.
+fn read_piece(
+    rt: &HostRuntime,
+    kept: &mut Option<OpenInput>,
+    name: &str,
+    at: u64,
+    buf: &mut [u8],
+) -> io::Result<usize>
+    ensures { IfOk result (λ n. n ≤ length buf.new) }
+{
+    match kept.take() {
+        Some(open) if open.is_at(name, at) => return read_on(open, kept, buf),
+        _ => {}
+    }
+    let mut file = File::open(rt, name)?;
+    if at > 0 {
+        return file.read_at(buf, at);
+    }
+    match String::from_str(rt.alloc(), name) {
+        Ok(name) => read_on(OpenInput { name, file, at }, kept, buf),
+        Err(_) => file.read(buf),
+    }
+}
+
+/// Makes a file with no bytes, which is kept open.
+fn create_file(rt: &HostRuntime, kept: &mut Option<OpenOutput>, name: &str) -> io::Result<()> {
+    *kept = None;
+    let file = File::create(rt, name)?;
+    if let Ok(name) = String::from_str(rt.alloc(), name) {
+        *kept = Some(OpenOutput { name, file });
+    }
+    Ok(())
+}
+
+/// Writes to the file that is kept open, if it has the name, or at the end of one that is opened for
+/// it. A file that takes nothing of a piece is an error.
+fn write_more(
+    rt: &HostRuntime,
+    kept: &mut Option<OpenOutput>,
+    name: &str,
+    bytes: &[u8],
+) -> io::Result<()> {
+    match kept {
+        Some(open) if open.name.as_str() == name => open.file.write_all(bytes),
+        _ => OpenOptions::new()
+            .append(true)
+            .open(rt, name)?
+            .write_all(bytes),
+    }
 }
 
 impl DirShelf<'_> {
@@ -64,6 +139,8 @@ impl DirShelf<'_> {
             rt,
             read_faults: 0,
             write_faults: 0,
+            reading: None,
+            writing: None,
         }
     }
 }
@@ -79,17 +156,25 @@ impl Shelf for DirShelf<'_> {
 
     #[tactic(auto, unfolding(crate::specs::Shelf::file_of))]
     fn read_at(&mut self, name: &str, at: u64, buf: &mut [u8]) -> Result<usize, Failed> {
-        counted(read_piece(self.rt, name, at, buf), &mut self.read_faults)
+        counted(
+            read_piece(self.rt, &mut self.reading, name, at, buf),
+            &mut self.read_faults,
+        )
     }
 
     #[tactic(auto, unfolding(crate::specs::Shelf::with_file))]
     fn create(&mut self, name: &str) -> Result<(), Failed> {
-        counted(File::create(self.rt, name), &mut self.write_faults)?;
-        Ok(())
+        counted(
+            create_file(self.rt, &mut self.writing, name),
+            &mut self.write_faults,
+        )
     }
 
     fn append(&mut self, name: &str, bytes: &[u8]) -> Result<(), Failed> {
-        counted(write_more(self.rt, name, bytes), &mut self.write_faults)
+        counted(
+            write_more(self.rt, &mut self.writing, name, bytes),
+            &mut self.write_faults,
+        )
     }
 }
 

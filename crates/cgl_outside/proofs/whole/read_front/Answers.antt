@@ -1,7 +1,7 @@
 use Rattle.std.proofs.Common.{arith, rules, ◌≡◌, ◌∙◌, ◌⊎◌, ◌+◌, ◌<◌, ◌≤◌, ◌-◌, ap, refl, sym, inl, inr, length, length-take, min, take, ℕ, List, Err, IsErrOf}
 use Rattle.cgl_outside.specs.declared.errors.FetchError.{FetchError}
 use Rattle.cgl_outside.specs.declared.errors.FetchError.TheVariants.{ReadFault}
-use Rattle.cgl_outside.proofs.CountRules.{same_later}
+use Rattle.cgl_outside.proofs.CountRules.{rose_or, same_later}
 use Rattle.cgl_outside.proofs.ShelfRules.{front_read, len_is, ok_no_fault, memory_no_fault}
 use Rattle.cgl_outside.proofs.whole.read_front.Goals as goal
 
@@ -51,7 +51,7 @@ returns-in-Err g c =
       front = tt;
       found = tt;
       small = tt;
-      read_fault = λ e. reads.read_fault (same_err e);
+      read_fault = λ e. rose_or _ _ (reads.read_fault (same_err e));
       reads = err_same reads.reads;
       later = reads.later;
       excused = reads.excused;

@@ -1,6 +1,5 @@
 use Rattle.std.proofs.Common.{◌+◌, length, ◌≡◌, ◌≤◌, refl, subst, inl, inr}
 use Rattle.cgl_outside.specs.Shelf.{IsPiece}
-use Rattle.cgl_outside.proofs.CountRules.{rose_or}
 use Rattle.cgl_outside.proofs.ShelfRules.{len_is, ok_no_fault, memory_no_fault, more_within, more_read, is_more, whole_read, more_length}
 use Rattle.cgl_outside.proofs.whole.read_more.Goals as goal
 
@@ -11,7 +10,7 @@ returns-in_default g c =
       held = says.held;
       writes = says.writes;
       more = tt;
-      reads = record { ok = tt; read_fault = λ _. rose_or _ _ says.reads.failed; reads = inl refl; later = says.reads.later; excused = says.reads.excused };
+      reads = record { ok = tt; read_fault = λ _. says.reads.failed; reads = inl refl; later = says.reads.later; excused = says.reads.excused };
       within = tt;
     }
 
