@@ -6,8 +6,10 @@ pub mod FilesRules
 pub mod HandedLaws
 pub mod LineLaws
 pub mod MemShelfRules
+pub mod NextLineLaws
 pub mod ShelfLaws
 pub mod ShelfRules
 pub mod SinkLaws
+pub mod SoFarLaws
 pub mod SureShelfRules
 pub mod TurnLaws

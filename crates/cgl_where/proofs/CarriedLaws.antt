@@ -1,11 +1,11 @@
 -- What a reader carries stands for the records so far.
-use Rattle.std.proofs.Common.{◌≡◌, ◌≢◌, refl, sym, ap, ap₂, ◌∙◌, subst, arith, ℕ, zero, suc, ◌+◌, ◌^◌, ◌<◌, ◌≤◌, ◌==◌, nat_lt, Bool, true, false, not, cond, ◌||◌, List, [], ◌∷◌, ◌++◌, append-nil, map, find, length, drop, get_or, bytes_eq, Option, Some, None, is_some, is_none, option_and_then, Result, Ok, Err}
+use Rattle.std.proofs.Common.{◌≡◌, ◌≢◌, refl, sym, ap, ap₂, ◌∙◌, subst, arith, ℕ, zero, suc, ◌^◌, ◌<◌, ◌≤◌, ◌==◌, nat_lt, Bool, true, false, not, cond, ◌||◌, List, [], ◌∷◌, ◌++◌, append-nil, map, find, length, get_or, bytes_eq, Option, Some, None, is_some, is_none, option_and_then, Result, Ok, Err}
 use Rattle.std.specs.Prelude.{replicate, unsigned_abs, unwrap_or, slice_get, position, slice_set}
 use Rattle.std.specs.Option.{option_or}
 use Rattle.std.specs.Result.{IfOk}
 use Rattle.std.specs.List.{list_any, cons_option}
 use Rattle.std.proofs.lemmas.Option.{unwrap_or-slice_get}
-use Rattle.std.proofs.lemmas.List.{drop_all, get_or-set_same, get_or-set_other, length-map, length-replicate, length-set}
+use Rattle.std.proofs.lemmas.List.{get_or-set_same, get_or-set_other, length-map, length-replicate, length-set}
 use Rattle.std.proofs.lemmas.List.Elements.{filter_map-append}
 use Rattle.std.proofs.lemmas.List.Folds.{list_any-append, find-append}
 use Rattle.std.proofs.lemmas.List.Quantifiers.{position-Some}
@@ -16,20 +16,18 @@ use Rattle.cgl_num.specs.Fraction.{Fraction}
 use Rattle.cgl_num.specs.NumberText.{Word}
 use Rattle.cgl_model.specs.declared.mip.Column.{Column}
 use denote.Ref.{Bor}
-use Rattle.cgl_text.specs.Text.{lines_of, kept_fields, no_field, is_over, most_bytes}
+use Rattle.cgl_text.specs.Text.{kept_fields, no_field}
 use Rattle.cgl_where.proofs.ValueLaws.{some_left}
 use Rattle.cgl_model.specs.declared.mip.Model.{Model}
 use Rattle.cgl_model.specs.Point.{Point}
-use Rattle.cgl_where.specs.Reading.{read_from}
 use Rattle.cgl_text.specs.Seen.{words}
 use Rattle.cgl_text.proofs.NameLaws.{is_found}
-use Rattle.cgl_where.proofs.ReadingLaws.{line_passes, line_stops, point_reads, test_off, test_passed, within_limits}
-use Rattle.cgl_where.proofs.FrontLaws.{fault_over}
+use Rattle.cgl_where.proofs.ReadingLaws.{test_off, test_passed}
 use Rattle.cgl_where.specs.declared.carried.Carried.{Carried}
 use Rattle.cgl_where.specs.PointValue.{value}
 use Rattle.cgl_text.specs.Conditions.{first_kind}
-use Rattle.cgl_where.specs.PointFile.{Record, field, is_kept, kept, names_column, column_names, values, value_at, common_denominator, lcm, is_too_fine, zero_fraction, value_conditions, record_of, fault_after, point_of, point_in, Fault, Values}
-use Rattle.cgl_where.specs.Carried.{column_number, named_at, found_value, is_wide, grown_denominator, carried_conditions, carried_value, IsSound, Carries, TakesIn, FollowsLine}
+use Rattle.cgl_where.specs.PointFile.{Record, field, is_kept, kept, names_column, column_names, values, value_at, common_denominator, lcm, is_too_fine, zero_fraction, value_conditions, record_of, point_in, point_from}
+use Rattle.cgl_where.specs.Carried.{column_number, named_at, found_value, is_wide, grown_denominator, carried_conditions, carried_value, IsSound, Carries, TakesIn, kind_within, FollowsLine}
 use Rattle.cgl_where.specs.Limits.{ArePositive}
 use Rattle.cgl_where.specs.Laws.{DivideAll}
 use Rattle.cgl_where.proofs.LcmLaws.{denominator_above}
@@ -274,48 +272,14 @@ pub carried_values : (m : Model) (before : List Record) (carried : Carried) → 
     → map (λ c. carried_value m carried.named.items c.name) m.cols ≡ map (value_at before) (column_names m)
 carried_values m before carried c = carried_each m before carried.named.items c.named_are m.cols
 
--- ---- lines as code holds them
+-- ---- the point
 
--- the later lines, after what is carried of those before them, give the outcome
-pub record Reads (bytes : List ℕ) (m : Model) (n : ℕ) (lines : List (List ℕ)) (carried : Carried) : Type 0 where
-  pub before : List Record
-  pub carries : Carries m before carried
-  pub rest : read_from most_bytes bytes m n before lines ≡ point_of bytes m
+pub carries_ready : (m : Model) (before : List Record) (carried : Carried) → Carries m before carried → IsReady (map (λ c. carried_value m carried.named.items c.name) m.cols)
+carries_ready m before carried c = subst IsReady (sym (carried_values m before carried c)) (point_ready before (column_names m) c.fine)
 
-pub reads_first : (bytes : List ℕ) (m : Model) (lines : List (Bor (List ℕ))) (carried : Carried) → words lines ≡ lines_of bytes → Carries m [] carried → Reads bytes m 1 (words lines) carried
-reads_first bytes m lines carried is c = record { before = []; carries = c; rest = point_reads bytes m lines is }
-
-pub reads_next : (bytes : List ℕ) (m : Model) (lines : List (Bor (List ℕ))) (i : ℕ) (empty : Bor (List ℕ)) (over : Bool) (kind : Option ℕ) (old new : Carried)
-    → i < length lines → over ≡ is_over most_bytes bytes (i + 1) → kind ≡ None
-    → Reads bytes m (i + 1) (words (drop i lines)) old → FollowsLine m (record_of (i + 1) (get_or lines i empty).now) over kind old new
-    → Reads bytes m (i + 1 + 1) (words (drop (i + 1) lines)) new
-reads_next bytes m lines i empty over kind old new lt over_is none so_far follows =
-    let step = follows bytes so_far.before over_is so_far.carries in
-    record {
-      before = so_far.before ++ kept (record_of (i + 1) (get_or lines i empty).now ∷ []);
-      carries = step.1 none;
-      rest = line_passes bytes m lines i empty so_far.before (point_of bytes m) lt (sym step.0 ∙ none) so_far.rest;
-    }
-
-pub reads_fault : (bytes : List ℕ) (m : Model) (lines : List (Bor (List ℕ))) (i : ℕ) (empty : Bor (List ℕ)) (over : Bool) (kind : Option ℕ) (found : ℕ) (old new : Carried)
-    → i < length lines → over ≡ is_over most_bytes bytes (i + 1) → kind ≡ Some found
-    → Reads bytes m (i + 1) (words (drop i lines)) old → FollowsLine m (record_of (i + 1) (get_or lines i empty).now) over kind old new → point_of bytes m ≡ Fault (i + 1) found
-reads_fault bytes m lines i empty over kind found old new lt over_is some so_far follows =
-    let step = follows bytes so_far.before over_is so_far.carries in
-    line_stops bytes m lines i empty so_far.before found (point_of bytes m) lt (sym step.0 ∙ some) so_far.rest
-
-pub reads_ready : (bytes : List ℕ) (m : Model) (n : ℕ) (lines : List (List ℕ)) (carried : Carried) → Reads bytes m n lines carried
-    → IsReady (map (λ c. carried_value m carried.named.items c.name) m.cols)
-reads_ready bytes m n lines carried reads =
-    subst IsReady (sym (carried_values m reads.before carried reads.carries)) (point_ready reads.before (column_names m) reads.carries.fine)
-
-pub reads_last : (bytes : List ℕ) (m : Model) (n : ℕ) (lines : List (Bor (List ℕ))) (i : ℕ) (carried : Carried) → length lines ≤ i
-    → Reads bytes m n (words (drop i lines)) carried → (x : Point) → x ≡ point_in (map (λ c. carried_value m carried.named.items c.name) m.cols) → point_of bytes m ≡ Values x
-reads_last bytes m n lines i carried end reads x is =
-    sym reads.rest
-    ∙ ap (λ l. read_from most_bytes bytes m n reads.before (words l)) (drop_all i lines end)
-    ∙ ap (λ l. Values (point_in l)) (sym (carried_values m reads.before carried reads.carries))
-    ∙ ap Values (sym is)
+pub carries_point : (m : Model) (before : List Record) (carried : Carried) → Carries m before carried
+    → (x : Point) → x ≡ point_in (map (λ c. carried_value m carried.named.items c.name) m.cols) → x ≡ point_from m before
+carries_point m before carried c x is = is ∙ ap point_in (carried_values m before carried c)
 
 -- ---- a line
 
@@ -326,35 +290,30 @@ no_words (field ∷ fields) = sym (some_left (length fields))
 pub kept_is : (fields : List (Bor (List ℕ))) (line : List ℕ) (n : ℕ) (empty : Bool) → words fields ≡ kept_fields line → empty ≡ (length fields == 0) → is_kept (record_of n line) ≡ not empty
 kept_is fields line n empty is empty_is = ap (λ w. not (no_field w)) (sym is) ∙ ap not (no_words fields ∙ sym empty_is)
 
-pub follows_over : (m : Model) (r : Record) (over : Bool) (old new : Carried) → over ≡ true → FollowsLine m r over (Some 12) old new
-follows_over m r over old new met bytes before is c = (sym (fault_over most_bytes bytes m before r (sym is ∙ met)), (λ none. cc))
+kind_by : (m : Model) (before : List Record) (r : Record) (long kept_too : Bool) → nat_lt 4096 r.bytes ≡ long → is_kept r ≡ kept_too
+    → cond long (Some 11) (first_kind (cond kept_too (value_conditions m before r) [])) ≡ kind_within m before r
+kind_by m before r long kept_too long_is kept_is = ap₂ (λ b k. cond b (Some 11) (first_kind (cond k (value_conditions m before r) []))) (sym long_is) (sym kept_is)
 
-passed_kind : (bytes : List ℕ) (m : Model) (before : List Record) (r : Record) (over long kept_too : Bool) → over ≡ is_over most_bytes bytes r.line → over ≡ false
-    → nat_lt 4096 r.bytes ≡ long → is_kept r ≡ kept_too → cond long (Some 11) (first_kind (cond kept_too (value_conditions m before r) [])) ≡ fault_after most_bytes bytes m before r
-passed_kind bytes m before r over long kept_too over_is within long_is kept_is =
-    ap₂ (λ b k. cond b (Some 11) (first_kind (cond k (value_conditions m before r) []))) (sym long_is) (sym kept_is)
-    ∙ within_limits bytes m before r (sym over_is ∙ within)
-
-pub follows_long : (m : Model) (r : Record) (over : Bool) (old new : Carried) → over ≡ false → 4096 < r.bytes → FollowsLine m r over (Some 11) old new
-follows_long m r over old new within long bytes before over_is c =
+pub follows_long : (m : Model) (r : Record) (old new : Carried) → 4096 < r.bytes → FollowsLine m r (Some 11) old new
+follows_long m r old new long before c =
     let is : nat_lt 4096 r.bytes ≡ true = grind (arith, nat_tests) in
-    (passed_kind bytes m before r over true (is_kept r) over_is within is refl, (λ none. cc))
+    (kind_by m before r true (is_kept r) is refl, (λ none. cc))
 
-pub follows_blank : (m : Model) (r : Record) (over : Bool) (carried : Carried) → over ≡ false → r.bytes ≤ 4096 → is_kept r ≡ false → FollowsLine m r over None carried carried
-follows_blank m r over carried within short blank bytes before over_is c =
+pub follows_blank : (m : Model) (r : Record) (carried : Carried) → r.bytes ≤ 4096 → is_kept r ≡ false → FollowsLine m r None carried carried
+follows_blank m r carried short blank before c =
     let is : nat_lt 4096 r.bytes ≡ false = grind (arith, nat_tests) in
     let same : before ≡ before ++ kept (r ∷ []) = sym (ap (λ k. before ++ cond k (r ∷ []) []) blank ∙ append-nil before) in
     let C : List Record → Type 0 = λ l. Carries m l carried in
-    (passed_kind bytes m before r over false false over_is within is blank, (λ none. subst C same c))
+    (kind_by m before r false false is blank, (λ none. subst C same c))
 
-pub follows_value : (m : Model) (r : Record) (over : Bool) (kind : Option ℕ) (old new : Carried) → over ≡ false → r.bytes ≤ 4096 → is_kept r ≡ true
-    → kind ≡ first_kind (carried_conditions m old r) → (kind ≡ None → TakesIn m r old new) → FollowsLine m r over kind old new
-follows_value m r over kind old new within short filled is takes bytes before over_is c =
+pub follows_value : (m : Model) (r : Record) (kind : Option ℕ) (old new : Carried) → r.bytes ≤ 4096 → is_kept r ≡ true
+    → kind ≡ first_kind (carried_conditions m old r) → (kind ≡ None → TakesIn m r old new) → FollowsLine m r kind old new
+follows_value m r kind old new short filled is takes before c =
     let short_is : nat_lt 4096 r.bytes ≡ false = grind (arith, nat_tests) in
     let same : before ++ r ∷ [] ≡ before ++ kept (r ∷ []) = sym (ap (λ k. before ++ cond k (r ∷ []) []) filled) in
     let C : List Record → Type 0 = λ l. Carries m l new in
     let judged : kind ≡ first_kind (value_conditions m before r) = is ∙ conditions_same m before old r c in (
-      judged ∙ passed_kind bytes m before r over false true over_is within short_is filled,
+      judged ∙ kind_by m before r false true short_is filled,
       (λ none. subst C same (carries_more m before old new r c (sym judged ∙ none) (takes none))),
     )
 

@@ -7,3 +7,4 @@ pub mod LimitLaws
 pub mod FrontLaws
 pub mod CarriedLaws
 pub mod KindLaws
+pub mod LineLaws

@@ -1,15 +1,12 @@
 -- One reading, line by line, gives the outcome that the filters over all records say.
-use Rattle.std.proofs.Common.{◌≡◌, refl, sym, ap, ◌∙◌, arith, ℕ, ◌+◌, ◌<◌, ◌≤◌, nat_lt, Bool, true, false, cond, List, [], ◌∷◌, ◌++◌, append-nil, append_assoc, length, drop, get_or, filter_map, option_map, Option, Some, None}
+use Rattle.std.proofs.Common.{◌≡◌, refl, sym, ap, ◌∙◌, arith, ℕ, ◌+◌, ◌≤◌, nat_lt, Bool, true, false, cond, List, [], ◌∷◌, ◌++◌, append-nil, append_assoc, filter_map, option_map, Option, Some, None}
 use Rattle.std.specs.List.{cons_option}
-use Rattle.std.proofs.lemmas.List.{drop_more, length-map}
 use Rattle.std.proofs.lemmas.List.Elements.{filter-append}
-use denote.Ref.{Bor}
 use Rattle.cgl_text.specs.Text.{lines_of, is_over, most_bytes}
 use Rattle.cgl_model.specs.declared.mip.Model.{Model}
 use Rattle.cgl_text.specs.Conditions.{first_kind}
-use Rattle.cgl_where.specs.PointFile.{Record, record_of, records_from, records, before, kept, is_kept, values, is_too_fine, value_conditions, fault_after, fault_at, point_of, Outcome, Fault, outcome}
+use Rattle.cgl_where.specs.PointFile.{Record, record_of, records_from, records, before, kept, is_kept, values, is_too_fine, value_conditions, fault_after, fault_at, Outcome, outcome}
 use Rattle.cgl_where.specs.Reading.{turn, read_from, ReadsAlike}
-use Rattle.cgl_text.specs.Seen.{words}
 use Rattle.cgl_text.proofs.RecordLaws.{AllBelow, before-all, below-push, first-found, not_below}
 
 -- ---- the records before a line
@@ -69,15 +66,6 @@ go most bytes m all (line ∷ lines) n done parts fine below =
 pub reads_alike : ReadsAlike
 reads_alike most bytes m = go most bytes m (records bytes) (lines_of bytes) 1 [] refl refl tt
 
--- ---- the limit on bytes
-
-pub within_limits : (bytes : List ℕ) (m : Model) (before : List Record) (r : Record) → is_over most_bytes bytes r.line ≡ false
-    → first_kind ((nat_lt 4096 r.bytes, 11) ∷ cond (is_kept r) (value_conditions m before r) []) ≡ fault_after most_bytes bytes m before r
-unfolding fault_after
-within_limits bytes m before r within =
-    let later = first_kind ((nat_lt 4096 r.bytes, 11) ∷ cond (is_kept r) (value_conditions m before r) []) in
-    ap (λ b. cond b (Some 12) later) (sym within)
-
 -- ---- a line without fault
 
 pub test_off : (b : Bool) (kind : ℕ) (o : Option ℕ) → cond b (Some kind) o ≡ None → b ≡ false
@@ -96,36 +84,3 @@ pub fine_after : (bytes : List ℕ) (m : Model) (before : List Record) (r : Reco
 unfolding fault_after
 fine_after bytes m before r e so_far =
     fine_case m before r so_far (is_kept r) (test_passed (nat_lt 4096 r.bytes) 11 _ (test_passed (is_over most_bytes bytes r.line) 12 _ e))
-
--- ---- lines as code holds them
-
-next_line : (bytes : List ℕ) (m : Model) (lines : List (Bor (List ℕ))) (i : ℕ) (empty : Bor (List ℕ)) (before : List Record) → i < length lines
-    → read_from most_bytes bytes m (i + 1) before (words (drop i lines)) ≡ read_from most_bytes bytes m (i + 1) before ((get_or lines i empty).now ∷ words (drop (i + 1) lines))
-next_line bytes m lines i empty before lt = ap (λ l. read_from most_bytes bytes m (i + 1) before (words l)) (drop_more lines i empty lt)
-
-pub line_passes : (bytes : List ℕ) (m : Model) (lines : List (Bor (List ℕ))) (i : ℕ) (empty : Bor (List ℕ)) (before : List Record) (all : Outcome) → i < length lines
-    → fault_after most_bytes bytes m before (record_of (i + 1) (get_or lines i empty).now) ≡ None
-    → read_from most_bytes bytes m (i + 1) before (words (drop i lines)) ≡ all
-    → read_from most_bytes bytes m (i + 1 + 1) (before ++ kept (record_of (i + 1) (get_or lines i empty).now ∷ [])) (words (drop (i + 1) lines)) ≡ all
-line_passes bytes m lines i empty before all lt none so_far =
-    let after = before ++ kept (record_of (i + 1) (get_or lines i empty).now ∷ []) in
-    ap (λ k. turn k (i + 1) (read_from most_bytes bytes m (i + 1 + 1) after (words (drop (i + 1) lines)))) (sym none)
-    ∙ sym (next_line bytes m lines i empty before lt)
-    ∙ so_far
-
-pub line_stops : (bytes : List ℕ) (m : Model) (lines : List (Bor (List ℕ))) (i : ℕ) (empty : Bor (List ℕ)) (before : List Record) (kind : ℕ) (all : Outcome) → i < length lines
-    → fault_after most_bytes bytes m before (record_of (i + 1) (get_or lines i empty).now) ≡ Some kind
-    → read_from most_bytes bytes m (i + 1) before (words (drop i lines)) ≡ all
-    → all ≡ Fault (i + 1) kind
-line_stops bytes m lines i empty before kind all lt some so_far =
-    let after = before ++ kept (record_of (i + 1) (get_or lines i empty).now ∷ []) in
-    sym so_far
-    ∙ next_line bytes m lines i empty before lt
-    ∙ ap (λ k. turn k (i + 1) (read_from most_bytes bytes m (i + 1 + 1) after (words (drop (i + 1) lines)))) some
-
-pub point_reads : (bytes : List ℕ) (m : Model) (lines : List (Bor (List ℕ))) → words lines ≡ lines_of bytes → read_from most_bytes bytes m 1 [] (words lines) ≡ point_of bytes m
-unfolding point_of
-point_reads bytes m lines is = ap (read_from most_bytes bytes m 1 []) is ∙ sym (reads_alike most_bytes bytes m)
-
-pub count_lines : (bytes : List ℕ) (lines : List (Bor (List ℕ))) (found : List (List ℕ)) (n : ℕ) → n ≡ length lines → words lines ≡ found → found ≡ lines_of bytes → n ≡ length (lines_of bytes)
-count_lines bytes lines found n count is all = count ∙ sym (length-map lines (λ (line : Bor (List ℕ)). line.now)) ∙ ap length (is ∙ all)

@@ -6,9 +6,8 @@ use Rattle.cgl_num.specs.NumberText.{Word}
 use Rattle.cgl_model.specs.declared.mip.Model.{Model}
 use Rattle.cgl_where.specs.declared.carried.Carried.{Carried}
 use Rattle.cgl_where.specs.PointValue.{value}
-use Rattle.cgl_text.specs.Text.{is_over, most_bytes}
-use Rattle.cgl_text.specs.Conditions.{Condition}
-use Rattle.cgl_where.specs.PointFile.{Record, field, kept, names_column, column_names, values, common_denominator, numerator_over, lcm, is_too_fine, zero_fraction, fault_after}
+use Rattle.cgl_text.specs.Conditions.{Condition, first_kind}
+use Rattle.cgl_where.specs.PointFile.{Record, field, kept, names_column, column_names, values, common_denominator, numerator_over, lcm, is_kept, is_too_fine, value_conditions, zero_fraction}
 
 -- the first column of the name
 abbrev pub column_number : Model → Word → Option ℕ
@@ -69,11 +68,14 @@ pub record TakesIn (m : Model) (r : Record) (old new : Carried) : Type 0 where
   pub values_are : new.values.items ≡ old.values.items ++ taken ∷ []
   pub common : new.denominator ≡ lcm (unsigned_abs taken.den) old.denominator
 
+-- the kind of fault that a line is after the kept records before it, if it ends within the limit on bytes
+abbrev pub kind_within : Model → List Record → Record → Option ℕ
+kind_within m before r = first_kind ((nat_lt 4096 r.bytes, 11) ∷ (if is_kept r then value_conditions m before r else []))
+
 -- the line is this fault after the records before it, or it is carried with them
-abbrev pub FollowsLine : Model → Record → Bool → Option ℕ → Carried → Carried → Type 0
-FollowsLine m r over kind old new =
-    (bytes : List ℕ) (before : List Record) → over ≡ is_over most_bytes bytes r.line → Carries m before old
-    → (kind ≡ fault_after most_bytes bytes m before r) × (kind ≡ None → Carries m (before ++ kept (r ∷ [])) new)
+abbrev pub FollowsLine : Model → Record → Option ℕ → Carried → Carried → Type 0
+FollowsLine m r kind old new =
+    (before : List Record) → Carries m before old → (kind ≡ kind_within m before r) × (kind ≡ None → Carries m (before ++ kept (r ∷ [])) new)
 
 -- the value of the column of the name, or 0
 abbrev pub carried_value : Model → List (Option Fraction) → Word → Fraction

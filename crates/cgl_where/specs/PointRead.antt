@@ -1,9 +1,7 @@
 -- What the bytes of a point file mean, as a result.
-use Rattle.std.specs.Prelude.{◌≡◌, ℕ, List, Result, Ok, Err}
+use Rattle.std.specs.Prelude.{ℕ, List, Result, Ok, Err}
 use Rattle.cgl_model.specs.declared.mip.Model.{Model}
 use Rattle.cgl_model.specs.Point.{Point}
-use Rattle.cgl_outside.specs.declared.errors.ReadError.{ReadError}
-use Rattle.cgl_outside.specs.declared.errors.ReadError.TheVariants.{Fault as BadLine, ReadFault, Memory}
 use Rattle.cgl_where.specs.PointFile.{Outcome, Values, Fault, point_of}
 
 abbrev pub outcome_result : Outcome → Result Point (ℕ × ℕ)
@@ -13,9 +11,3 @@ outcome_result (Fault line kind) = Err (line, kind)
 -- the point of a point file, or the line and the kind of its first fault
 unfoldable pub point_result : Model → List ℕ → Result Point (ℕ × ℕ)
 point_result m bytes = outcome_result (point_of bytes m)
-
--- the error of a reading tells the fault of these bytes, or that memory was refused
-abbrev pub Tells : List ℕ → Model → ReadError → Type 0
-Tells bytes m (BadLine line kind) = point_of bytes m ≡ Fault line kind
-Tells bytes m ReadFault = ⊥
-Tells bytes m Memory = Unit {0}

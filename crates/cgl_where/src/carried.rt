@@ -16,7 +16,7 @@ use cgl_text::kept_fields;
 use std::alloc::Global;
 
 /// The most bytes of a line.
-const LONGEST_LINE: usize = 4096;
+pub(crate) const LONGEST_LINE: usize = 4096;
 
 /// The value of each column that a line named, all values in order, and their least common denominator.
 #[derive(Drop)]
@@ -87,23 +87,19 @@ impl Carried {
         Ok(None)
     }
 
-    /// Takes in a line, unless it is a fault. The kind of the fault. The byte past the limit may stand in the line.
+    /// Takes in a line that ends within the limit on bytes, unless it is a fault. The kind of the fault.
     pub(crate) fn take_line(
         &mut self,
         alloc: Global,
         columns: &Columns,
         line: &[u8],
-        over: bool,
     ) -> Result<Option<u8>, Memory>
         requires { IsSound columns.now self.old }
-        ensures { IfOk result (λ kind. (n : ℕ) → FollowsLine columns.now (record_of n line.now) over kind self.old self.new) }
+        ensures { IfOk result (λ kind. (n : ℕ) → FollowsLine columns.now (record_of n line.now) kind self.old self.new) }
     {
         let Ok(fields) = kept_fields(alloc, line) else {
             return Err(Memory);
         };
-        if over {
-            return Ok(Some(12));
-        }
         if line.len() > LONGEST_LINE {
             return Ok(Some(11));
         }

@@ -1,39 +1,31 @@
 //! Point files on a shelf.
 
-ghost use Rattle.std.specs.Prelude.{◌≡◌, ◌⊎◌, ◌+◌, ◌≤◌, ◌^◌, length, IfOk, IfErr, IsErrOf, Ok};
+ghost use Rattle.std.specs.Prelude.{◌≡◌, ◌⊎◌, ◌≤◌, length, IfOk, IfErr, IsErrOf, Ok};
 ghost use Rattle.cgl_outside.specs.Shelf.{Lacks, Rose};
-ghost use Rattle.cgl_where.specs.PointFile.{Values, point_of};
-ghost use Rattle.cgl_where.specs.PointRead.{Tells, point_result};
+ghost use Rattle.cgl_where.specs.PointRead.{point_result};
 ghost use Rattle.cgl_outside.specs.Means.{Means, MeansFault};
 
-use crate::{PointFileError, point_of};
+use crate::carried::{Carried, LONGEST_LINE};
+use crate::columns::Columns;
 use cgl_model::{Model, Point};
-use cgl_outside::{FetchError, ReadError, Shelf, read_front};
-use cgl_text::MOST_BYTES;
+use cgl_outside::{FetchError, LineStep, Lines, ReadError, Shelf};
 use std::alloc::Global;
 
-/// The point that a file means for the model, with the error of a reading.
-fn point_told(alloc: Global, bytes: &[u8], model: &Model) -> Result<Point, ReadError>
-    requires { length bytes.now ≤ 2 ^ 30 + 1 }
-    ensures point { IfOk result (λ x. point_of bytes.now model.now ≡ Values x) }
-    ensures sized { IfOk result (λ x. length x.p ≡ length model.now.cols) }
-    ensures fault { IfErr result (Tells bytes.now model.now) }
-{
-    match point_of(alloc, bytes, model) {
-        Ok(point) => Ok(point),
-        Err(PointFileError::Fault { line, kind }) => Err(ReadError::Fault { line, kind }),
-        Err(PointFileError::Memory) => Err(ReadError::Memory),
-    }
-}
-
 /// The point that the file of this name on the shelf means for the model. The file is read from its
-/// start, up to 2^30 + 1 bytes of it. The shelf's files stay as they were.
+/// start, line by line, to its end. The shelf's files stay as they were.
+///
+/// The point has a number for each column of the model, in their order, over one denominator, the
+/// least that all of them have. A column that no line names is at 0.
 ///
 /// # Errors
 ///
-/// `Fault` where the file is no point file for the model, at its first bad line and with the kind of
-/// [`PointFileError`], however long the file is. `ReadFault` where a read failed or there is no such
-/// file. `Memory` where memory was refused.
+/// `Fault` where the file is no point file for the model, at its first bad line, counted from 1, and
+/// with the kind of that line's first fault, however long the file is. The kind is 12 (the byte
+/// 2^30 + 1 stands in the line), 11 (a line over 4,096 bytes), 3 (not two fields), 6 (an unknown
+/// column), 14 (a column named before), 4 (a value that is not of its form or out of its limits) or
+/// 13 (from this line on the values' common denominator is above 2^62, or a numerator over it reaches
+/// 2^100). `ReadFault` where a read failed or there is no such file. `Memory` where memory was
+/// refused.
 pub fn read_point<S: Shelf>(
     alloc: Global,
     shelf: &mut S,
@@ -51,11 +43,48 @@ pub fn read_point<S: Shelf>(
     ensures held { S.held shelf.new ≡ S.held shelf.old }
     ensures writes { S.failed_writes shelf.new ≡ S.failed_writes shelf.old }
 {
-    // the byte past the limit tells that the file is too large, and what follows it counts for nothing
-    let bytes = match read_front(alloc, shelf, name, MOST_BYTES + 1) {
-        Ok(bytes) => bytes,
-        Err(FetchError::ReadFault) => return Err(ReadError::ReadFault),
-        Err(FetchError::Memory) => return Err(ReadError::Memory),
+    let Ok(columns) = Columns::of(alloc, model) else {
+        return Err(ReadError::Memory);
     };
-    point_told(alloc, &bytes, model)
+    let Ok(mut carried) = Carried::new(alloc, &columns) else {
+        return Err(ReadError::Memory);
+    };
+    let Ok(mut lines) = Lines::start(alloc, name, LONGEST_LINE as u64) else {
+        return Err(ReadError::Memory);
+    };
+    'lines: loop {
+        match lines.next(shelf) {
+            Ok(LineStep::Line) => {
+                let Ok(fault) = carried.take_line(alloc, &columns, lines.bytes()) else {
+                    return Err(ReadError::Memory);
+                };
+                if let Some(kind) = fault {
+                    return Err(ReadError::Fault {
+                        line: lines.number(),
+                        kind,
+                    });
+                }
+            }
+            Ok(LineStep::TooLong) => {
+                return Err(ReadError::Fault {
+                    line: lines.number(),
+                    kind: 11,
+                });
+            }
+            Ok(LineStep::Over) => {
+                return Err(ReadError::Fault {
+                    line: lines.number(),
+                    kind: 12,
+                });
+            }
+            Ok(LineStep::End) => {
+                let Ok(point) = carried.point(alloc, &columns) else {
+                    return Err(ReadError::Memory);
+                };
+                return Ok(point);
+            }
+            Err(FetchError::ReadFault) => return Err(ReadError::ReadFault),
+            Err(FetchError::Memory) => return Err(ReadError::Memory),
+        }
+    }
 }

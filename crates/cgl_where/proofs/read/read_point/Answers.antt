@@ -1,94 +1,103 @@
-use Rattle.std.proofs.Common.{arith, refl, inl, inr, ap, length, Err}
-use Rattle.cgl_where.proofs.FrontLaws.{fault_shown, memory_is_none, point_shown, reads_done, reads_kept, tells_no_read}
+use Rattle.std.proofs.Common.{◌≡◌, ◌∷◌, ◌++◌, [], refl, sym, ◌∙◌, subst, map, false}
+use Rattle.std.proofs.lemmas.Result.{IfOk-at_ok}
+use Rattle.cgl_model.specs.declared.mip.Model.{Model}
+use Rattle.cgl_outside.specs.Line.{written}
+use Rattle.cgl_outside.proofs.SoFarLaws.{IsSoFar, IsStep, so_far_begun, step_of}
+use Rattle.cgl_where.specs.Carried.{carried_value, Carries, FollowsLine, IsSound}
+use Rattle.cgl_where.specs.Limits.{ArePositive}
+use Rattle.cgl_where.specs.PointFile.{is_too_fine, kept, point_in, record_of}
+use Rattle.cgl_where.specs.PointRead.{point_result}
+use Rattle.cgl_where.proofs.CarriedLaws.{carries_sound, carries_ready, carries_point}
+use Rattle.cgl_where.proofs.LineLaws.{read_on, read_whole, long_line, over_line, no_line, bad_line, good_line}
 use Rattle.cgl_where.proofs.read.read_point.Goals as goal
 
-pub returns-clause-point : goal.returns-clause-point
-returns-clause-point g c =
-    point_shown (g.S.Shelf.held c.args.shelf.now) c.args.name.now c.in-Ok.bytes.items c.deref.result.now c.args.model.now c.point_told.result c.deref.ensures.value
-    record { found = c.in-Ok.ensures.found; part = c.in-Ok.ensures.front } c.point_told.ensures.point
+pub lines-init : goal.lines-init
+lines-init g c =
+    let held = g.S.Shelf.held c.args.shelf.now in
+    let name = c.args.name.now in
+    let m = c.args.model.now in
+    record {
+      text = [];
+      before = [];
+      carries = subst (λ (m : Model). Carries m [] c.in-Ok-new.carried) c.in-Ok.ensures c.in-Ok-new.ensures;
+      so_far = subst (λ reading. IsSoFar held name 4096 (point_result m) (read_on m []) reading []) (sym c.in-Ok-start.ensures.begun) (so_far_begun held name 4096 (point_result m) (read_on m []) (read_whole m));
+      held = refl;
+      reads = refl;
+      writes = refl;
+    }
 
-pub returns-clause-fault : goal.returns-clause-fault
-returns-clause-fault g c =
-    fault_shown (g.S.Shelf.held c.args.shelf.now) c.args.name.now c.in-Ok.bytes.items c.deref.result.now c.args.model.now c.point_told.result c.deref.ensures.value
-    record { found = c.in-Ok.ensures.found; part = c.in-Ok.ensures.front } c.point_told.ensures.fault
+pub take_line-requires : goal.take_line-requires
+take_line-requires g c =
+    subst (λ (m : Model). IsSound m c.lines.carried) (sym c.in-Ok.ensures) (carries_sound c.args.model.now c.lines.invariant.before c.lines.carried c.lines.invariant.carries)
 
-pub returns-clause-read_fault : goal.returns-clause-read_fault
-returns-clause-read_fault g c = λ e. absurd (tells_no_read c.deref.result.now c.args.model.now c.point_told.result c.point_told.ensures.fault e)
+pub returns-in-Ok-TooLong-clause-fault : goal.returns-in-Ok-TooLong-clause-fault
+returns-in-Ok-TooLong-clause-fault g c =
+    let held = g.S.Shelf.held c.args.shelf.now in
+    let inv = c.lines.invariant in
+    let so_far = inv.so_far in
+    let step : IsStep held c.lines.lines c.next.new.self c.next.result =
+    step_of held (g.S.Shelf.held c.lines.shelf) (g.S.Shelf.held c.next.new.shelf) c.lines.lines c.next.new.self c.next.result inv.held c.next.ensures.held so_far.open_ c.next.ensures.last c.next.ensures.says c.next.ensures.follows c.next.ensures.shape c.next.ensures.found c.next.ensures.ended c.next.ensures.name c.next.ensures.longest in
+    long_line held c.args.name.now c.args.model.now inv.before c.lines.lines c.next.new.self inv.text so_far c.next.result step c.in-Ok-TooLong.field-0 c.in-Ok-TooLong.is c.in-Ok-TooLong.field-0-is c.number-in-Ok-TooLong.result c.number-in-Ok-TooLong.ensures
 
-pub read_front-requires : goal.read_front-requires
-read_front-requires g c = omega arith
+pub returns-in-Ok-Over-clause-fault : goal.returns-in-Ok-Over-clause-fault
+returns-in-Ok-Over-clause-fault g c =
+    let held = g.S.Shelf.held c.args.shelf.now in
+    let inv = c.lines.invariant in
+    let so_far = inv.so_far in
+    let step : IsStep held c.lines.lines c.next.new.self c.next.result =
+    step_of held (g.S.Shelf.held c.lines.shelf) (g.S.Shelf.held c.next.new.shelf) c.lines.lines c.next.new.self c.next.result inv.held c.next.ensures.held so_far.open_ c.next.ensures.last c.next.ensures.says c.next.ensures.follows c.next.ensures.shape c.next.ensures.found c.next.ensures.ended c.next.ensures.name c.next.ensures.longest in
+    over_line held c.args.name.now c.args.model.now inv.before c.lines.lines c.next.new.self inv.text so_far c.next.result step c.in-Ok-Over.field-0 c.in-Ok-Over.is c.in-Ok-Over.field-0-is c.number-in-Ok-Over.result c.number-in-Ok-Over.ensures
 
-pub point_told-requires : goal.point_told-requires
-point_told-requires g c = omega (arith, c.in-Ok.ensures.small, ap length c.deref.ensures.value)
+pub returns-in-Some-clause-fault : goal.returns-in-Some-clause-fault
+returns-in-Some-clause-fault g c =
+    let held = g.S.Shelf.held c.args.shelf.now in
+    let inv = c.lines.invariant in
+    let so_far = inv.so_far in
+    let step : IsStep held c.lines.lines c.next.new.self c.next.result =
+    step_of held (g.S.Shelf.held c.lines.shelf) (g.S.Shelf.held c.next.new.shelf) c.lines.lines c.next.new.self c.next.result inv.held c.next.ensures.held so_far.open_ c.next.ensures.last c.next.ensures.says c.next.ensures.follows c.next.ensures.shape c.next.ensures.found c.next.ensures.ended c.next.ensures.name c.next.ensures.longest in
+    let new = c.next.new.self in
+    let follows = subst (λ (m : Model). FollowsLine m (record_of new.number c.bytes.result.now) c.in-Ok-take_line.fault c.lines.carried c.take_line.new.self) c.in-Ok.ensures (c.in-Ok-take_line.ensures new.number) in
+    bad_line held c.args.name.now c.args.model.now inv.before c.lines.lines c.next.new.self inv.text so_far c.next.result step c.in-Ok-Line.field-0 c.in-Ok-Line.is c.in-Ok-Line.field-0-is c.bytes.result.now c.bytes.ensures c.in-Some.kind c.number.result c.number.ensures
+    (sym c.in-Some.is ∙ (follows inv.before inv.carries).0)
 
-pub returns-in-Err-ReadFault-clause-point : goal.returns-in-Err-ReadFault-clause-point
-returns-in-Err-ReadFault-clause-point g c = tt
+pub lines-preserved : goal.lines-preserved
+lines-preserved g c =
+    let held = g.S.Shelf.held c.args.shelf.now in
+    let inv = c.lines.invariant in
+    let so_far = inv.so_far in
+    let step : IsStep held c.lines.lines c.next.new.self c.next.result =
+    step_of held (g.S.Shelf.held c.lines.shelf) (g.S.Shelf.held c.next.new.shelf) c.lines.lines c.next.new.self c.next.result inv.held c.next.ensures.held so_far.open_ c.next.ensures.last c.next.ensures.says c.next.ensures.follows c.next.ensures.shape c.next.ensures.found c.next.ensures.ended c.next.ensures.name c.next.ensures.longest in
+    let new = c.next.new.self in
+    let follows = subst (λ (m : Model). FollowsLine m (record_of new.number c.bytes.result.now) c.in-Ok-take_line.fault c.lines.carried c.take_line.new.self) c.in-Ok.ensures (c.in-Ok-take_line.ensures new.number) in
+    let says = follows inv.before inv.carries in
+    record {
+      text = inv.text ++ written new.line new.has_lf;
+      before = inv.before ++ kept (record_of new.number c.bytes.result.now ∷ []);
+      carries = says.1 c.in_default-fault.is;
+      so_far = good_line held c.args.name.now c.args.model.now inv.before c.lines.lines c.next.new.self inv.text so_far c.next.result step c.in-Ok-Line.field-0 c.in-Ok-Line.is c.in-Ok-Line.field-0-is c.bytes.result.now c.bytes.ensures (sym c.in_default-fault.is ∙ says.0);
+      held = c.next.ensures.held ∙ inv.held;
+      reads = IfOk-at_ok (λ _. g.S.Shelf.failed_reads c.next.new.shelf ≡ g.S.Shelf.failed_reads c.lines.shelf) c.in-Ok-Line.is (c.next.ensures.reads so_far.open_).ok ∙ inv.reads;
+      writes = c.next.ensures.writes ∙ inv.writes;
+    }
 
-pub returns-in-Err-ReadFault-clause-sized : goal.returns-in-Err-ReadFault-clause-sized
-returns-in-Err-ReadFault-clause-sized g c = tt
+pub point-requires-clause-positive : goal.point-requires-clause-positive
+point-requires-clause-positive g c =
+    let named = c.lines.carried.named.items in
+    subst (λ (m : Model). ArePositive (map (λ x. carried_value m named x.name) m.cols)) (sym c.in-Ok.ensures)
+    (carries_ready c.args.model.now c.lines.invariant.before c.lines.carried c.lines.invariant.carries).positive
 
-pub returns-in-Err-ReadFault-clause-fault : goal.returns-in-Err-ReadFault-clause-fault
-returns-in-Err-ReadFault-clause-fault g c = tt
+pub point-requires-clause-within : goal.point-requires-clause-within
+point-requires-clause-within g c =
+    let named = c.lines.carried.named.items in
+    subst (λ (m : Model). is_too_fine (map (λ x. carried_value m named x.name) m.cols) ≡ false) (sym c.in-Ok.ensures)
+    (carries_ready c.args.model.now c.lines.invariant.before c.lines.carried c.lines.invariant.carries).within
 
-pub returns-in-Err-ReadFault-clause-later : goal.returns-in-Err-ReadFault-clause-later
-returns-in-Err-ReadFault-clause-later g c = c.in-Err-ReadFault.ensures.later
-
-pub returns-in-Err-ReadFault-clause-excused : goal.returns-in-Err-ReadFault-clause-excused
-returns-in-Err-ReadFault-clause-excused g c = c.in-Err-ReadFault.ensures.excused
-
-pub returns-in-Err-ReadFault-clause-held : goal.returns-in-Err-ReadFault-clause-held
-returns-in-Err-ReadFault-clause-held g c = c.in-Err-ReadFault.ensures.held
-
-pub returns-in-Err-ReadFault-clause-writes : goal.returns-in-Err-ReadFault-clause-writes
-returns-in-Err-ReadFault-clause-writes g c = c.in-Err-ReadFault.ensures.writes
-
-pub returns-in-Err-Memory-clause-point : goal.returns-in-Err-Memory-clause-point
-returns-in-Err-Memory-clause-point g c = tt
-
-pub returns-in-Err-Memory-clause-sized : goal.returns-in-Err-Memory-clause-sized
-returns-in-Err-Memory-clause-sized g c = tt
-
-pub returns-in-Err-Memory-clause-fault : goal.returns-in-Err-Memory-clause-fault
-returns-in-Err-Memory-clause-fault g c = tt
-
-pub returns-in-Err-Memory-clause-later : goal.returns-in-Err-Memory-clause-later
-returns-in-Err-Memory-clause-later g c = c.in-Err-Memory.ensures.later
-
-pub returns-in-Err-Memory-clause-excused : goal.returns-in-Err-Memory-clause-excused
-returns-in-Err-Memory-clause-excused g c = c.in-Err-Memory.ensures.excused
-
-pub returns-in-Err-Memory-clause-held : goal.returns-in-Err-Memory-clause-held
-returns-in-Err-Memory-clause-held g c = c.in-Err-Memory.ensures.held
-
-pub returns-in-Err-Memory-clause-writes : goal.returns-in-Err-Memory-clause-writes
-returns-in-Err-Memory-clause-writes g c = c.in-Err-Memory.ensures.writes
-
-pub returns-in-Err-ReadFault-clause-read_fault : goal.returns-in-Err-ReadFault-clause-read_fault
-returns-in-Err-ReadFault-clause-read_fault g c = λ e. c.in-Err-ReadFault.ensures.read_fault (ap Err c.in-Err-ReadFault.field-0-is)
-
-pub returns-in-Err-ReadFault-clause-reads : goal.returns-in-Err-ReadFault-clause-reads
-returns-in-Err-ReadFault-clause-reads g c = inl refl
-
-pub returns-clause-sized : goal.returns-clause-sized
-returns-clause-sized g c = c.point_told.ensures.sized
-
-pub returns-clause-later : goal.returns-clause-later
-returns-clause-later g c = c.in-Ok.ensures.later
-
-pub returns-clause-excused : goal.returns-clause-excused
-returns-clause-excused g c = c.in-Ok.ensures.excused
-
-pub returns-clause-held : goal.returns-clause-held
-returns-clause-held g c = c.in-Ok.ensures.held
-
-pub returns-clause-writes : goal.returns-clause-writes
-returns-clause-writes g c = c.in-Ok.ensures.writes
-
-pub returns-in-Err-Memory-clause-read_fault : goal.returns-in-Err-Memory-clause-read_fault
-returns-in-Err-Memory-clause-read_fault g c = λ e. absurd (memory_is_none e)
-
-pub returns-in-Err-Memory-clause-reads : goal.returns-in-Err-Memory-clause-reads
-returns-in-Err-Memory-clause-reads g c = inr (reads_kept c.read_front.result c.in-Err-Memory.field-0 c.in-Err-Memory.is c.in-Err-Memory.field-0-is c.read_front.ensures.reads)
-
-pub returns-clause-reads : goal.returns-clause-reads
-returns-clause-reads g c = inr (reads_done c.read_front.result c.in-Ok.bytes c.in-Ok.is c.read_front.ensures.reads)
+pub returns-in-Ok-End-clause-point : goal.returns-in-Ok-End-clause-point
+returns-in-Ok-End-clause-point g c =
+    let held = g.S.Shelf.held c.args.shelf.now in
+    let inv = c.lines.invariant in
+    let so_far = inv.so_far in
+    let step : IsStep held c.lines.lines c.next.new.self c.next.result =
+    step_of held (g.S.Shelf.held c.lines.shelf) (g.S.Shelf.held c.next.new.shelf) c.lines.lines c.next.new.self c.next.result inv.held c.next.ensures.held so_far.open_ c.next.ensures.last c.next.ensures.says c.next.ensures.follows c.next.ensures.shape c.next.ensures.found c.next.ensures.ended c.next.ensures.name c.next.ensures.longest in
+    let is = subst (λ (m : Model). c.in-Ok-point.point ≡ point_in (map (λ x. carried_value m c.lines.carried.named.items x.name) m.cols)) c.in-Ok.ensures c.in-Ok-point.ensures in
+    no_line held c.args.name.now c.args.model.now inv.before c.lines.lines c.next.new.self inv.text so_far c.next.result step c.in-Ok-End.field-0 c.in-Ok-End.is c.in-Ok-End.field-0-is c.in-Ok-point.point (carries_point c.args.model.now inv.before c.lines.carried inv.carries c.in-Ok-point.point is)
