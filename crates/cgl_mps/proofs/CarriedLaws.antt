@@ -68,7 +68,7 @@ made_named : (records : List Record) (names : List Word) → map (made_column re
 made_named records [] = refl
 made_named records (name ∷ names) = ap (λ l. column_of records name ∷ l) (made_named records names)
 
-all_made : (records : List Record) (columns : ReadColumns) → IsColumns (data_in Columns records) columns → map (made_column records) (all_of columns) ≡ map (column_of records) (column_names records)
+pub all_made : (records : List Record) (columns : ReadColumns) → IsColumns (data_in Columns records) columns → map (made_column records) (all_of columns) ≡ map (column_of records) (column_names records)
 all_made records columns is = ap (map (made_column records)) (are_all (data_in Columns records) columns is) ∙ made_named records (names_of (all_of columns)) ∙ ap (map (column_of records)) is.names
 
 pub made_in_turn : (records : List Record) (columns : ReadColumns) (none some made : List Column)

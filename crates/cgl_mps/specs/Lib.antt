@@ -1,2 +1,5 @@
 pub mod Seen
 pub mod Carried
+pub mod Tables
+pub mod State
+pub mod Made

@@ -31,7 +31,7 @@ fn one() -> Dec
 }
 
 /// What a record makes the lower bound, if it sets it.
-fn lower_by(kind: BoundKind, value: Option<Dec>) -> Option<Option<Dec>>
+pub(crate) fn lower_by(kind: BoundKind, value: Option<Dec>) -> Option<Option<Dec>>
     ensures { result ≡ lower_by kind value }
 {
     match kind {
@@ -43,7 +43,7 @@ fn lower_by(kind: BoundKind, value: Option<Dec>) -> Option<Option<Dec>>
 }
 
 /// What a record makes the upper bound, if it sets it.
-fn upper_by(kind: BoundKind, value: Option<Dec>) -> Option<Option<Dec>>
+pub(crate) fn upper_by(kind: BoundKind, value: Option<Dec>) -> Option<Option<Dec>>
     ensures { result ≡ upper_by kind value }
 {
     match kind {
@@ -55,7 +55,7 @@ fn upper_by(kind: BoundKind, value: Option<Dec>) -> Option<Option<Dec>>
 }
 
 /// The bound's value, where it is finite.
-fn value_in(b: &Bound) -> Option<Dec>
+pub(crate) fn value_in(b: &Bound) -> Option<Dec>
     ensures { result ≡ value_in b.now }
 {
     match limit_of(b.value)? {
@@ -64,7 +64,7 @@ fn value_in(b: &Bound) -> Option<Dec>
     }
 }
 
-fn is_upper(kind: BoundKind) -> bool
+pub(crate) fn is_upper(kind: BoundKind) -> bool
     ensures { result ≡ is_upper kind }
 {
     match kind {
@@ -73,7 +73,7 @@ fn is_upper(kind: BoundKind) -> bool
     }
 }
 
-fn is_below_zero(value: Option<Dec>) -> bool
+pub(crate) fn is_below_zero(value: Option<Dec>) -> bool
     ensures { result ≡ is_below_zero value }
 {
     match value {
@@ -118,7 +118,7 @@ pub(crate) fn upper_of(bounds: &[Bound]) -> Option<Dec>
     upper
 }
 
-fn is_integer(kind: BoundKind) -> bool
+pub(crate) fn is_integer(kind: BoundKind) -> bool
     ensures { result ≡ makes_integer kind }
 {
     match kind {
