@@ -73,6 +73,13 @@ impl Entries {
             Err(_) => Err(Memory),
         }
     }
+
+    /// Gives back the memory that the entries do not take.
+    pub fn shrink_to_fit(&mut self)
+        ensures { self.new ≡ self.old }
+    {
+        self.items.shrink_to_fit();
+    }
 }
 
 /// A column, with its lower and its upper bound and its entries. A bound that is `None` is infinite.
