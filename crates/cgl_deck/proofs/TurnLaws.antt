@@ -1,5 +1,6 @@
 -- Loops that let a text grow by the text of each item of a list.
-use Rattle.std.proofs.Common.{◌≡◌, ◌≢◌, List, ℕ, suc, ◌+◌, ◌<◌, ◌≤◌, [], ◌∷◌, ◌++◌, length, get_or, take, drop, flat_map, map, length-append, subst, add-one, ap, refl, sym, ◌∙◌, arith, codes, cond, pos, int_lt, not, ◌&&◌, Bool, false}
+use Rattle.std.proofs.Common.{◌≡◌, ◌≢◌, List, ℕ, suc, ◌+◌, ◌<◌, ◌≤◌, [], ◌∷◌, ◌++◌, length, get_or, take, drop, flat_map, map, length-append, subst, add-one, ap, refl, sym, ◌∙◌, arith, codes, cond, pos, int_lt, not, ◌&&◌, ◌||◌, Bool, true, false}
+use Rattle.std.specs.List.{list_any}
 use Rattle.std.proofs.Math.Seq.{drop-cons}
 use Rattle.std.proofs.lemmas.List.{drop_all, take_all}
 use Rattle.cgl_num.specs.Decimal.{Decimal, decimal_text}
@@ -10,7 +11,7 @@ use Rattle.cgl_model.specs.declared.mip.Model.{Model}
 use Rattle.cgl_model.specs.declared.mip.Row.{Row}
 use Rattle.cgl_deck.specs.declared.output.Output.{Output}
 use Rattle.cgl_deck.specs.DeckLength.{most}
-use Rattle.cgl_deck.specs.DeckOutput.{Longer}
+use Rattle.cgl_deck.specs.DeckOutput.{Longer, is_written}
 use Rattle.cgl_deck.specs.DeckText.{both_text, bound_line, bound_text, column_text, columns_text, data_line, deck_text, is_zero_decimal, marker_text, name_text, range_text, rhs_text, row_text, section_text, sense_text}
 
 pub next_item : {X : Type 0} (xs : List X) (i : ℕ) (d x : X) → i < length xs → x ≡ get_or xs i d → drop i xs ≡ x ∷ drop (i + 1) xs
@@ -78,14 +79,30 @@ items_ended f xs i a b le grows = longer_as _ _ a b (ap (flat_map f) (take_all i
 
 -- ---- sections
 
-pub section_left_out : (head lines : List ℕ) (none counted a : Output) → none.len ≡ 0 → Longer lines none counted → counted.len ≡ 0 → Longer (section_text head lines) a a
-section_left_out head [] none counted a start count empty = longer_nothing a
-section_left_out head (b ∷ lines) none counted a start count empty = absurd (omega (arith, count.len 0 start))
+written_first : (x y : List ℕ) → is_written (x ++ y) ≡ (is_written x || is_written y)
+written_first [] y = refl
+written_first (b ∷ x) y = refl
 
-pub section_written : (head lines : List ℕ) (none counted a b c : Output) → none.len ≡ 0 → Longer lines none counted → counted.len ≢ 0 → Longer head a b → Longer lines b c
-    → Longer (section_text head lines) a c
-section_written head [] none counted a b c start count some opened longer = absurd (omega (arith, count.len 0 start))
-section_written head (l ∷ lines) none counted a b c start count some opened longer = longer_then head (l ∷ lines) a b c opened longer
+-- the texts of a list's items are empty exactly where each is
+pub any_written : {X : Type 0} (f : X → List ℕ) (xs : List X) → is_written (flat_map f xs) ≡ list_any (λ x. is_written (f x)) xs
+any_written f [] = refl
+any_written f (x ∷ xs) = written_first (f x) (flat_map f xs) ∙ ap (λ b. is_written (f x) || b) (any_written f xs)
+
+left_out : (head lines : List ℕ) (a : Output) → is_written lines ≡ false → Longer (section_text head lines) a a
+left_out head [] a none = longer_nothing a
+left_out head (b ∷ lines) a none = cc
+
+pub section_left_out : {X : Type 0} (f : X → List ℕ) (xs : List X) (head : List ℕ) (some : Bool) (a : Output) → some ≡ list_any (λ x. is_written (f x)) xs → some ≡ false
+    → Longer (section_text head (flat_map f xs)) a a
+section_left_out f xs head some a is none = left_out head (flat_map f xs) a (any_written f xs ∙ sym is ∙ none)
+
+written : (head lines : List ℕ) (a b c : Output) → is_written lines ≡ true → Longer head a b → Longer lines b c → Longer (section_text head lines) a c
+written head [] a b c some opened longer = cc
+written head (l ∷ lines) a b c some opened longer = longer_then head (l ∷ lines) a b c opened longer
+
+pub section_written : {X : Type 0} (f : X → List ℕ) (xs : List X) (head : List ℕ) (some : Bool) (a b c : Output) → some ≡ list_any (λ x. is_written (f x)) xs → some ≡ true
+    → Longer head a b → Longer (flat_map f xs) b c → Longer (section_text head (flat_map f xs)) a c
+section_written f xs head some a b c is yet opened longer = written head (flat_map f xs) a b c (any_written f xs ∙ sym is ∙ yet) opened longer
 
 -- ---- bounds
 

@@ -1,5 +1,5 @@
 -- Texts that are written or only measured.
-use Rattle.std.specs.Prelude.{◌≡◌, ℕ, ◌+◌, List, [], length, Option, None, Some, is_some, true}
+use Rattle.std.specs.Prelude.{◌≡◌, ℕ, ◌+◌, List, [], length, ◌∷◌, Bool, true, false, Option, None, Some, is_some}
 use Rattle.cgl_text.specs.Growth.{Grown, Grows}
 use Rattle.cgl_deck.specs.DeckLength.{most}
 use Rattle.cgl_deck.specs.declared.output.Output.{Output}
@@ -14,3 +14,8 @@ pub record Longer (piece : List ℕ) (old new : Output) : Type 0 where
   pub kept : is_some new.bytes ≡ is_some old.bytes
   pub len : (n : ℕ) → old.len ≡ most n → new.len ≡ most (n + length piece)
   pub bytes : Grows piece (grown old.bytes) (grown new.bytes)
+
+-- whether there is anything of a text
+abbrev pub is_written : List ℕ → Bool
+is_written [] = false
+is_written (b ∷ text) = true

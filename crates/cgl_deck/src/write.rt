@@ -1,7 +1,8 @@
 ghost use Rattle.std.specs.Prelude.{◌≡◌, [], ◌∷◌, ◌&&◌, codes, false, flat_map, length, map, not, pos, int_lt, IfOk};
+ghost use Rattle.std.specs.List.{list_any};
 ghost use Rattle.cgl_num.specs.Decimal.{decimal_text};
 ghost use Rattle.cgl_deck.specs.DeckLength.{most};
-ghost use Rattle.cgl_deck.specs.DeckOutput.{Longer};
+ghost use Rattle.cgl_deck.specs.DeckOutput.{Longer, is_written};
 ghost use Rattle.cgl_deck.specs.DeckText.{both_text, bound_line, bound_text, column_text, columns_text, data_line, deck_text, is_zero_decimal, kind_word, lower_text, marker_text, name_text, range_text, rhs_text, row_name, row_text, section_text, sense_text};
 
 use crate::output::Output;
@@ -142,6 +143,12 @@ fn add_columns(output: &mut Output, rows: &[Row], columns: &[Column])
 
 // ---- sections with no header where they have no line
 
+fn has_rhs(row: &Row) -> bool
+    ensures { result ≡ is_written (rhs_text row.now) }
+{
+    !is_zero(row.rhs)
+}
+
 fn add_rhs(output: &mut Output, row: &Row)
     ensures { Longer (rhs_text row.now) output.old output.new }
 {
@@ -158,16 +165,25 @@ fn add_right_sides(output: &mut Output, rows: &[Row])
     }
 }
 
+fn has_right_sides(rows: &[Row]) -> bool
+    ensures { result ≡ list_any (λ row. is_written (rhs_text row)) rows.now }
+{
+    rows.iter().any(|row| has_rhs(row))
+}
+
 fn add_right_side_section(output: &mut Output, rows: &[Row])
     ensures { Longer (section_text (codes "RHS\n") (flat_map rhs_text rows.now)) output.old output.new }
 {
-    let mut lines = Output::counting();
-    add_right_sides(&mut lines, rows);
-    if lines.len == 0 {
-        return;
+    if has_right_sides(rows) {
+        output.append(b"RHS\n");
+        add_right_sides(output, rows);
     }
-    output.append(b"RHS\n");
-    add_right_sides(output, rows);
+}
+
+fn has_range(row: &Row) -> bool
+    ensures { result ≡ is_written (range_text row.now) }
+{
+    row.range.is_some()
 }
 
 fn add_range(output: &mut Output, row: &Row)
@@ -186,16 +202,19 @@ fn add_ranges(output: &mut Output, rows: &[Row])
     }
 }
 
+fn has_ranges(rows: &[Row]) -> bool
+    ensures { result ≡ list_any (λ row. is_written (range_text row)) rows.now }
+{
+    rows.iter().any(|row| has_range(row))
+}
+
 fn add_range_section(output: &mut Output, rows: &[Row])
     ensures { Longer (section_text (codes "RANGES\n") (flat_map range_text rows.now)) output.old output.new }
 {
-    let mut lines = Output::counting();
-    add_ranges(&mut lines, rows);
-    if lines.len == 0 {
-        return;
+    if has_ranges(rows) {
+        output.append(b"RANGES\n");
+        add_ranges(output, rows);
     }
-    output.append(b"RANGES\n");
-    add_ranges(output, rows);
 }
 
 // ---- bounds
@@ -236,6 +255,16 @@ fn add_lower(output: &mut Output, name: &[u8], integer: bool, lower: Dec)
     }
 }
 
+/// Whether the column has a bound's record: not so exactly where it is not integer and has a lower bound of 0 alone.
+fn has_bound(column: &Column) -> bool
+    ensures { result ≡ is_written (bound_text column.now) }
+{
+    match (column.lo, column.up) {
+        (Some(lo), None) => column.integer || !is_zero(lo),
+        (None, _) | (Some(_), Some(_)) => true,
+    }
+}
+
 fn add_bound(output: &mut Output, column: &Column)
     ensures { Longer (bound_text column.now) output.old output.new }
 {
@@ -265,16 +294,19 @@ fn add_bounds(output: &mut Output, columns: &[Column])
     }
 }
 
+fn has_bounds(columns: &[Column]) -> bool
+    ensures { result ≡ list_any (λ column. is_written (bound_text column)) columns.now }
+{
+    columns.iter().any(|column| has_bound(column))
+}
+
 fn add_bound_section(output: &mut Output, columns: &[Column])
     ensures { Longer (section_text (codes "BOUNDS\n") (flat_map bound_text columns.now)) output.old output.new }
 {
-    let mut lines = Output::counting();
-    add_bounds(&mut lines, columns);
-    if lines.len == 0 {
-        return;
+    if has_bounds(columns) {
+        output.append(b"BOUNDS\n");
+        add_bounds(output, columns);
     }
-    output.append(b"BOUNDS\n");
-    add_bounds(output, columns);
 }
 
 // ---- all

@@ -1,10 +1,10 @@
-use Rattle.std.proofs.Common.{codes, flat_map}
+use Rattle.std.proofs.Common.{codes}
 use Rattle.cgl_deck.specs.DeckText.{rhs_text}
 use Rattle.cgl_deck.proofs.TurnLaws.{section_left_out, section_written}
 use Rattle.cgl_deck.proofs.write.add_right_side_section.Goals as goal
 
-pub returns-then-lines-eq0 : goal.returns-then-lines-eq0
-returns-then-lines-eq0 c = section_left_out (codes "RHS\n") (flat_map rhs_text c.args.rows.now) _ _ _ c.counting-lines.ensures c.add_right_sides.ensures c.if-lines-eq0.true
+pub returns-then-has_right_sides : goal.returns-then-has_right_sides
+returns-then-has_right_sides c = section_written rhs_text c.args.rows.now (codes "RHS\n") _ _ _ _ c.has_right_sides.ensures c.if-has_right_sides.true c.append.ensures c.add_right_sides.ensures
 
-pub returns : goal.returns
-returns c = section_written (codes "RHS\n") (flat_map rhs_text c.args.rows.now) _ _ _ _ _ c.counting-lines.ensures c.add_right_sides.ensures c.if-lines-eq0.false c.append.ensures c.add_right_sides-2.ensures
+pub returns-else-has_right_sides : goal.returns-else-has_right_sides
+returns-else-has_right_sides c = section_left_out rhs_text c.args.rows.now (codes "RHS\n") _ _ c.has_right_sides.ensures c.if-has_right_sides.false
