@@ -183,11 +183,11 @@ magnitude_times (negsuc m) n = sign_keeps true (suc m * n)
 pub whole_size : (d : Decimal) (k : ℕ) → IsDecimal d → d.e ≡ pos k → unsigned_abs d.m * 10 ^ k < 10 ^ 36
 whole_size d k is e = subst (λ v. v < 10 ^ 36) (ap (λ x. unsigned_abs (times_power d.m x)) e ∙ magnitude_times d.m (10 ^ k)) is.within.size
 
-nonnegative : (e : ℤ) → lt_z e (pos 0) ≡ false → e ≡ pos (unsigned_abs e)
+pub nonnegative : (e : ℤ) → lt_z e (pos 0) ≡ false → e ≡ pos (unsigned_abs e)
 nonnegative (pos n) h = refl
 nonnegative (negsuc n) h = cc
 
-negative : (e : ℤ) → lt_z e (pos 0) ≡ true → e ≡ neg_ℤ (pos (unsigned_abs e))
+pub negative : (e : ℤ) → lt_z e (pos 0) ≡ true → e ≡ neg_ℤ (pos (unsigned_abs e))
 negative (pos n) h = let no = not_below n 0 (omega arith) in cc
 negative (negsuc n) h = refl
 

@@ -13,4 +13,5 @@ pub mod NumberLawsValue
 pub mod OrderLaws
 pub mod OverflowLaws
 pub mod ReadBackLaws
+pub mod TextLengthLaws
 pub mod TotalOrderLaws

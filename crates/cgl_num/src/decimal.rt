@@ -130,6 +130,39 @@ fn put_decimals(out: &mut [u8; 48], at: usize, m: u128, k: usize) -> usize
     put_padded(out, end, k, m % power)
 }
 
+/// The exponent of the greatest power of ten that is not above the number.
+fn greatest_power(number: u128) -> u32
+    requires { 0 < number }
+    ensures from { 10 ^ result ≤ number }
+    ensures below { number < 10 * 10 ^ result }
+    ensures bound { result < 39 }
+{
+    if number <= u64::MAX as u128 {
+        (number as u64).ilog10()
+    } else {
+        number.ilog10()
+    }
+}
+
+/// How many digits the number has; 0 has one.
+fn digit_count(number: u128) -> usize
+    requires { number < 10 ^ 24 }
+    ensures count { result ≡ length (decimal number) }
+    ensures few { result ≤ 24 }
+{
+    if number == 0 {
+        return 1;
+    }
+    greatest_power(number) as usize + 1
+}
+
+fn sign_len(negative: bool) -> usize
+    ensures len { result ≡ length (minus negative) }
+    ensures few { result ≤ 1 }
+{
+    if negative { 1 } else { 0 }
+}
+
 impl Dec {
     /// m of `m * 10^e`, with the number's sign.
     pub fn m(self) -> i128
@@ -178,6 +211,20 @@ impl Dec {
             put_decimals(out, at, m, self.e.unsigned_abs() as usize)
         } else {
             put_number(out, at, m * 10u128.pow(self.e as u32))
+        }
+    }
+
+    /// The length in bytes of what `digits` writes, without writing it.
+    pub fn text_len(self) -> usize
+        ensures { result ≡ length (decimal_text self) }
+    {
+        let sign = sign_len(self.m < 0);
+        let count = digit_count(self.m.unsigned_abs());
+        let scale = self.e.unsigned_abs() as usize;
+        if self.e < 0 {
+            sign + (count.max(scale + 1) + 1)
+        } else {
+            sign + (count + scale)
         }
     }
 }
