@@ -1,5 +1,5 @@
 -- Loops that let a text grow by the text of each item of a list.
-use Rattle.std.proofs.Common.{◌≡◌, ◌≢◌, List, ℕ, suc, ◌+◌, ◌<◌, ◌≤◌, [], ◌∷◌, ◌++◌, length, get_or, take, drop, flat_map, map, length-append, subst, add-one, ap, refl, sym, ◌∙◌, arith, codes, cond, pos, int_lt, not, ◌&&◌, ◌||◌, Bool, true, false}
+use Rattle.std.proofs.Common.{◌≡◌, List, ℕ, suc, ◌+◌, ◌<◌, ◌≤◌, [], ◌∷◌, ◌++◌, length, get_or, take, drop, flat_map, map, length-append, subst, add-one, ap, refl, sym, ◌∙◌, arith, codes, cond, pos, int_lt, not, ◌&&◌, ◌||◌, Bool, true, false}
 use Rattle.std.specs.List.{list_any}
 use Rattle.std.proofs.Math.Seq.{drop-cons}
 use Rattle.std.proofs.lemmas.List.{drop_all, take_all}
@@ -32,6 +32,11 @@ longer_then x y a b c first second = record {
 pub longer_as : (x y : List ℕ) (a b : Output) → x ≡ y → Longer x a b → Longer y a b
 longer_as x y a b e longer = subst (λ (z : List ℕ). Longer z a b) e longer
 
+pub three_words : (x y z : Word) (a b c d e : Output) → Longer (32 ∷ x) a b → Longer (32 ∷ y) b c → Longer (32 ∷ z) c d → Longer (10 ∷ []) d e
+    → Longer (data_line (x ∷ y ∷ z ∷ [])) a e
+three_words x y z a b c d e first second third end =
+    longer_then (32 ∷ x) _ a b e first (longer_then (32 ∷ y) _ b c e second (longer_then (32 ∷ z) (10 ∷ []) c d e third end))
+
 -- ---- a rest that is to come
 
 -- with the rest behind it the text is longer by the whole
@@ -46,11 +51,10 @@ less_to_come piece rest before whole old a b is awaits grows = record {
   with_rest = λ end more. awaits.with_rest end (longer_as _ _ a end (sym is) (longer_then piece rest a b end grows more));
 }
 
-pub word_turn : {X : Type 0} (word : X → Word) (xs : List X) (i : ℕ) (d : X) (whole : List ℕ) (old a b c : Output) → i < length xs
-    → Awaits (data_line (map word (drop i xs))) whole old a → Longer (32 ∷ []) a b → Longer (word (get_or xs i d)) b c → Awaits (data_line (map word (drop (i + 1) xs))) whole old c
-word_turn word xs i d whole old a b c lt awaits space grows =
-    less_to_come (32 ∷ word (get_or xs i d)) (data_line (map word (drop (i + 1) xs))) _ whole old a c (ap (λ l. data_line (map word l)) (next_item xs i d (get_or xs i d) lt refl)) awaits
-    (longer_then (32 ∷ []) (word (get_or xs i d)) a b c space grows)
+pub word_turn : {X : Type 0} (word : X → Word) (xs : List X) (i : ℕ) (d : X) (whole : List ℕ) (old a b : Output) → i < length xs
+    → Awaits (data_line (map word (drop i xs))) whole old a → Longer (32 ∷ word (get_or xs i d)) a b → Awaits (data_line (map word (drop (i + 1) xs))) whole old b
+word_turn word xs i d whole old a b lt awaits grows =
+    less_to_come (32 ∷ word (get_or xs i d)) (data_line (map word (drop (i + 1) xs))) _ whole old a b (ap (λ l. data_line (map word l)) (next_item xs i d (get_or xs i d) lt refl)) awaits grows
 
 pub line_ended : {X : Type 0} (word : X → Word) (xs : List X) (i : ℕ) (whole : List ℕ) (old a b : Output) → length xs ≤ i
     → Awaits (data_line (map word (drop i xs))) whole old a → Longer (10 ∷ []) a b → Longer whole old b

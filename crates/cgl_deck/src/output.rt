@@ -1,8 +1,10 @@
 //! Texts that are written or only measured.
 
 ghost use Rattle.std.specs.Prelude.{◌≡◌};
+ghost use Rattle.cgl_num.specs.Decimal.{decimal_text};
 ghost use Rattle.cgl_deck.specs.DeckOutput.{Longer};
 
+use cgl_num::Dec;
 use cgl_text::Builder;
 
 /// A text that grows by pieces: its length, which stays at the end of u64 once it reaches it, and its bytes where they
@@ -32,5 +34,18 @@ impl Output {
         if let Some(bytes) = &mut self.bytes {
             bytes.append(piece);
         }
+    }
+
+    /// Puts the text of a number behind the text. It is only measured where bytes are not kept.
+    pub(crate) fn append_number(&mut self, number: Dec)
+        ensures { Longer (decimal_text number) self.old self.new }
+    {
+        if self.bytes.is_none() {
+            self.len = self.len.saturating_add(number.text_len() as u64);
+            return;
+        }
+        let mut digits = [0; 48];
+        let len = number.digits(&mut digits);
+        self.append(&digits[..len]);
     }
 }

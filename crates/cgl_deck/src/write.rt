@@ -28,13 +28,28 @@ fn is_upper_alone(lo: Dec, up: Dec) -> bool
 
 // ---- lines
 
+/// A word behind a space.
+fn add_word(output: &mut Output, word: &[u8])
+    ensures { Longer (32 ∷ word.now) output.old output.new }
+{
+    output.append(b" ");
+    output.append(word);
+}
+
+/// A number behind a space.
+fn add_number(output: &mut Output, number: Dec)
+    ensures { Longer (32 ∷ decimal_text number) output.old output.new }
+{
+    output.append(b" ");
+    output.append_number(number);
+}
+
 /// A line with each word behind a space.
 fn add_line(output: &mut Output, words: &[&[u8]])
     ensures { Longer (data_line (map (λ word. word.now) words.now)) output.old output.new }
 {
     for word in words {
-        output.append(b" ");
-        output.append(word);
+        add_word(output, word);
     }
     output.append(b"\n");
 }
@@ -43,9 +58,10 @@ fn add_line(output: &mut Output, words: &[&[u8]])
 fn add_number_line(output: &mut Output, first: &[u8], second: &[u8], number: Dec)
     ensures { Longer (data_line (first.now ∷ second.now ∷ decimal_text number ∷ [])) output.old output.new }
 {
-    let mut digits = [0; 48];
-    let len = number.digits(&mut digits);
-    add_line(output, &[first, second, &digits[..len]]);
+    add_word(output, first);
+    add_word(output, second);
+    add_number(output, number);
+    output.append(b"\n");
 }
 
 // ---- name and sense
@@ -229,9 +245,11 @@ fn add_mark(output: &mut Output, kind: &[u8], name: &[u8])
 fn add_value(output: &mut Output, kind: &[u8], name: &[u8], value: Dec)
     ensures { Longer (bound_line kind.now name.now (decimal_text value ∷ [])) output.old output.new }
 {
-    let mut digits = [0; 48];
-    let len = value.digits(&mut digits);
-    add_line(output, &[kind, b"BND", name, &digits[..len]]);
+    add_word(output, kind);
+    add_word(output, b"BND");
+    add_word(output, name);
+    add_number(output, value);
+    output.append(b"\n");
 }
 
 fn add_both(output: &mut Output, name: &[u8], lo: Dec, up: Dec)

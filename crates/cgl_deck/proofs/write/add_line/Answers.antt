@@ -8,7 +8,7 @@ loop-word-init c = all_to_come (data_line (map (λ word. word.now) c.args.words.
 
 pub loop-word-preserved : goal.loop-word-preserved
 loop-word-preserved c =
-    word_turn (λ word. word.now) c.args.words.now c.loop-word.word-index _ _ _ _ _ _ c.loop-word-test.true c.loop-word.invariant c.append.ensures c.append-in-loop-word.ensures
+    word_turn (λ word. word.now) c.args.words.now c.loop-word.word-index _ _ _ _ _ c.loop-word-test.true c.loop-word.invariant c.add_word.ensures
 
 pub returns : goal.returns
-returns c = line_ended (λ word. word.now) c.args.words.now c.loop-word.word-index _ _ _ _ c.loop-word-test.false c.loop-word.invariant c.append-2.ensures
+returns c = line_ended (λ word. word.now) c.args.words.now c.loop-word.word-index _ _ _ _ c.loop-word-test.false c.loop-word.invariant c.append.ensures
