@@ -15,8 +15,8 @@ const TOLD: usize = 16;
 
 /// A shelf that has a file under each name, the same one, and gives a byte of it a read.
 #[derive(Drop)]
-struct Dribble {
-    bytes: Vec<u8>,
+pub struct Dribble {
+    pub bytes: Vec<u8>,
 }
 
 impl Shelf for Dribble {

@@ -1,13 +1,13 @@
 //! Cases of decks, and of a point.
-ghost use Rattle.std.specs.Prelude.{◌≤◌, length, ◌^◌};
 ghost use Rattle.cgl_model.specs.Valid.{IsValid};
 
 use crate::bytes::bytes_of;
+use crate::lines::Dribble;
 use crate::numbers::fraction;
 use cgl_deck::{cut_names, deck_len, write_deck};
 use cgl_model::{End, Forms, Ineq, Model, Place, Point, Seq, Terms};
-use cgl_mps::{DeckError, deck_of};
-use cgl_outside::SureShelf;
+use cgl_mps::read_deck;
+use cgl_outside::{ReadError, SureShelf};
 use std::alloc::Global;
 
 /// Tells a point x, and by how much it violates `2x >= 1`.
@@ -31,14 +31,11 @@ pub fn tell_violation(rt: &impl Print, alloc: Global, word: &str) -> Option<()> 
     .ok()
 }
 
-/// Whether the model that a text means is written as the same text.
-fn is_written_again(alloc: Global, text: &[u8]) -> Option<bool>
-    requires { length text.now ≤ 2 ^ 30 }
-{
-    let model = deck_of(alloc, text).ok()?;
-    let mut files = SureShelf::new(alloc);
-    write_deck(alloc, &model, &mut files, "again").ok()?;
-    Some(files.file("again") == Some(text))
+/// Whether the model that the file `text` means is written as the same text.
+fn is_written_again(alloc: Global, files: &mut SureShelf) -> Option<bool> {
+    let model = read_deck(alloc, files, "text").ok()?;
+    write_deck(alloc, &model, files, "again").ok()?;
+    Some(files.file("again") == files.file("text"))
 }
 
 /// Tells the canonical text as a file holds it, and whether it has the length that is told without it and is read and
@@ -47,12 +44,9 @@ fn tell_text(rt: &impl Print, alloc: Global, files: &mut SureShelf, model: &Mode
     requires { IsValid model.now }
 {
     write_deck(alloc, model, files, "text").ok()?;
+    let is_again = is_written_again(alloc, files)?;
     let text = files.file("text")?;
-    if text.len() > 1 << 30 {
-        return None;
-    }
     let has_length = text.len() as u64 == deck_len(model);
-    let is_again = is_written_again(alloc, text)?;
     println!(rt; "  {has_length} {is_again} {}", text.escape_ascii()).ok()
 }
 
@@ -103,12 +97,14 @@ fn tell_model(rt: &impl Print, alloc: Global, files: &mut SureShelf, model: &Mod
     tell_forms(rt, &forms, rows, model.cols.as_slice().len() as u32)
 }
 
-/// Tells the model of a deck, or the deck's first bad line and kind.
+/// Tells the model of a deck, or the deck's first bad line and kind, where each read gives one byte.
 pub fn tell_deck(rt: &impl Print, alloc: Global, files: &mut SureShelf, text: &str) -> Option<()> {
-    let deck = bytes_of(alloc, text)?;
-    match deck_of(alloc, &deck) {
+    let mut shelf = Dribble {
+        bytes: bytes_of(alloc, text)?,
+    };
+    match read_deck(alloc, &mut shelf, "deck") {
         Ok(model) => tell_model(rt, alloc, files, &model),
-        Err(DeckError::Fault { line, kind }) => println!(rt; "  line {line} kind {kind}").ok(),
-        Err(DeckError::Memory) => None,
+        Err(ReadError::Fault { line, kind }) => println!(rt; "  line {line} kind {kind}").ok(),
+        Err(ReadError::ReadFault | ReadError::Memory) => None,
     }
 }

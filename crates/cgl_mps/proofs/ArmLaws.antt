@@ -49,7 +49,7 @@ stands : (r : Record) (section : Section) → r.header ≡ false → r.section �
 stands r section data_line at other = ap₂ (λ h s. not h && same_section other s) data_line at
 
 -- two equations used at once
-subst₂ : {A B : Type 0} (P : A → B → Type 0) {a a' : A} {b b' : B} → a ≡ a' → b ≡ b' → P a b → P a' b'
+pub subst₂ : {A B : Type 0} (P : A → B → Type 0) {a a' : A} {b b' : B} → a ≡ a' → b ≡ b' → P a b → P a' b'
 subst₂ P {a} {a'} {b} {b'} e f p = subst (λ y. P a' y) f (subst (λ x. P x b) e p)
 
 same_columns : (r : Record) (old new : State) (read : ReadColumns) → new.rows ≡ old.rows → new.columns ≡ old.columns → is_data_of Columns r ≡ false

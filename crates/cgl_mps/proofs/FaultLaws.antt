@@ -1,29 +1,18 @@
 -- The first condition that holds, and the judgement of a line's pairs.
-use Rattle.std.proofs.Common.{◌≡◌, refl, sym, ap, ap₂, ◌∙◌, arith, ℕ, ◌<◌, ◌≤◌, nat_lt, Bool, true, false, cond, not, ◌||◌, List, [], ◌∷◌, ◌++◌, append-nil, length, take, Option, Some, None, is_some, unwrap_or, option_map}
-use Rattle.std.specs.List.{list_any, cons_option}
+use Rattle.std.proofs.Common.{◌≡◌, refl, sym, ap, ap₂, ◌∙◌, arith, ℕ, ◌+◌, ◌<◌, ◌≤◌, nat_le, Bool, true, false, cond, not, ◌&&◌, ◌||◌, List, [], ◌∷◌, ◌++◌, append-nil, length, take, Option, Some, None, is_some, is_none, unwrap_or, option_map, bytes_eq, position}
 use denote.Ref.{Bor}
-use Rattle.cgl_num.specs.NumberText.{Word, is_number, limit}
+use Rattle.cgl_num.specs.NumberText.{Word, is_number, limit, number}
 use Rattle.cgl_decode.specs.declared.kinds.BoundKind.{BoundKind}
 use Rattle.cgl_decode.specs.declared.kinds.BoundKind.TheVariants.{Lo, Li, Up, Ui, Fx, Fr, Mi, Pl, Bv}
-use Rattle.cgl_decode.specs.Records.{Record}
-use Rattle.cgl_decode.specs.Sections.{Pair, pairs_of, sense_in, senses, needs_value}
-use Rattle.cgl_text.specs.Text.{is_over}
+use Rattle.cgl_decode.specs.Sections.{Pair, pairs_of, needs_value}
+use Rattle.cgl_text.specs.Text.{is_one_of}
 use Rattle.cgl_text.specs.Conditions.{Condition, first_kind}
-use Rattle.cgl_decode.specs.Faults.{each_pair, no_word, conditions, fault_after, takes, is_value_of}
-use Rattle.cgl_decode.specs.Decode.{deck_limits}
+use Rattle.cgl_text.proofs.NameLaws.{is_found}
+use Rattle.cgl_decode.specs.Faults.{Limits, each_pair, names_row, takes, is_value_of}
 use Rattle.cgl_text.specs.Seen.{words}
 use Rattle.cgl_mps.specs.Seen.{word_at}
-use Rattle.cgl_mps.proofs.Found.{has_sense}
-
--- senses
-
-given : (o : Option Word) (ws : List Word) (b : Bool) → not (no_word ws) ≡ b → not (no_word (cons_option o ws)) ≡ (is_some o || b)
-given None ws b e = e
-given (Some w) ws b e = refl
-
-pub any_sense : (records : List Record) → list_any has_sense records ≡ not (no_word (senses records))
-any_sense [] = refl
-any_sense (r ∷ records) = sym (given (sense_in r) (senses records) (list_any has_sense records) (sym (any_sense records)))
+use Rattle.cgl_mps.specs.Tables.{is_marked_row}
+use Rattle.cgl_mps.specs.State.{State, entry_conditions, has_entry, is_current, placed_conditions}
 
 -- the first condition
 
@@ -87,24 +76,22 @@ second_pair judge (a ∷ (b ∷ (c ∷ (d ∷ (f ∷ []))))) le lt e =
     first_kind-none (judge [] (a.now, b.now)) (judge ((a.now, b.now) ∷ []) (c.now, d.now) ++ []) e ∙ ap first_kind (append-nil (judge ((a.now, b.now) ∷ []) (c.now, d.now)))
 second_pair judge (a ∷ (b ∷ (c ∷ (d ∷ (f ∷ (g ∷ fields)))))) le lt e = absurd (omega arith)
 
--- the limit on bytes
+-- a pair of COLUMNS, by the place of its row
 
-kind_over : (over : Bool) (rest : Option ℕ) → true ≡ over → Some 12 ≡ cond over (Some 12) rest
-kind_over true rest e = refl
-kind_over false rest e = cc
+pub unknown_row : (limits : Limits) (state : State) (name : Word) (earlier : List Pair) (pair : Pair) → position (bytes_eq pair.0) state.rows ≡ None
+    → Some 5 ≡ first_kind (entry_conditions limits state name earlier pair)
+unknown_row limits state name earlier pair none =
+    let unknown : is_one_of state.rows pair.0 ≡ false = sym (is_found (bytes_eq pair.0) state.rows) ∙ ap is_some none in
+    sym (ap (λ b. cond (not b) (Some 5)
+    (first_kind ((has_entry state name pair.0 || names_row earlier pair.0, 7) ∷ (is_none (number pair.1), 4) ∷ (nat_le limits.entries (state.columns.count + length earlier), 12) ∷ []))) unknown)
 
-kind_not_over : (over : Bool) (rest : Option ℕ) → false ≡ over → rest ≡ cond over (Some 12) rest
-kind_not_over true rest e = cc
-kind_not_over false rest e = refl
-
-pub fault_over : (bytes : List ℕ) (before : List Record) (r : Record) → true ≡ is_over deck_limits.bytes bytes r.line → Some 12 ≡ fault_after deck_limits bytes before r
-unfolding fault_after
-fault_over bytes before r e = kind_over (is_over deck_limits.bytes bytes r.line) (first_kind ((nat_lt 4096 r.bytes, 11) ∷ conditions deck_limits before r)) e
-
-pub fault_not_over : (bytes : List ℕ) (before : List Record) (r : Record) → false ≡ is_over deck_limits.bytes bytes r.line
-    → first_kind ((nat_lt 4096 r.bytes, 11) ∷ conditions deck_limits before r) ≡ fault_after deck_limits bytes before r
-unfolding fault_after
-fault_not_over bytes before r e = kind_not_over (is_over deck_limits.bytes bytes r.line) (first_kind ((nat_lt 4096 r.bytes, 11) ∷ conditions deck_limits before r)) e
+pub known_row : (limits : Limits) (state : State) (name : Word) (earlier : List Pair) (place : ℕ) (pair : Pair) → position (bytes_eq pair.0) state.rows ≡ Some place
+    → first_kind (placed_conditions limits state name earlier place pair) ≡ first_kind (entry_conditions limits state name earlier pair)
+known_row limits state name earlier place pair at =
+    let known : is_one_of state.rows pair.0 ≡ true = sym (is_found (bytes_eq pair.0) state.rows) ∙ ap is_some at in
+    sym (ap (λ b. cond (not b) (Some 5)
+    (first_kind ((has_entry state name pair.0 || names_row earlier pair.0, 7) ∷ (is_none (number pair.1), 4) ∷ (nat_le limits.entries (state.columns.count + length earlier), 12) ∷ []))) known
+    ∙ ap (λ found. first_kind (((is_current state.columns name && unwrap_or (option_map (is_marked_row state.columns) found) false) || names_row earlier pair.0, 7) ∷ (is_none (number pair.1), 4) ∷ (nat_le limits.entries (state.columns.count + length earlier), 12) ∷ [])) at)
 
 -- values of bounds
 

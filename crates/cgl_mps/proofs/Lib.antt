@@ -1,11 +1,7 @@
 pub mod FaultLaws
-pub mod Found
-pub mod TurnLaws
 pub mod WordLaws
-pub mod DeckLaws
 pub mod PushLaws
 pub mod CarriedLaws
-pub mod DeckResultLaws
 mod PlacedLaws
 mod PairTableLaws
 mod BoundTableLaws
@@ -15,3 +11,4 @@ pub mod TakeLaws
 pub mod ArmLaws
 pub mod MadeLaws
 pub mod LoopLaws
+pub mod NextLaws

@@ -25,13 +25,16 @@ use Rattle.cgl_outside.specs.declared.line_reader.LineStep.TheVariants.{Line, To
 use Rattle.cgl_outside.specs.declared.errors.FetchError.{FetchError}
 use Rattle.cgl_outside.specs.declared.errors.ReadError.{ReadError}
 use Rattle.cgl_outside.specs.declared.errors.ReadError.TheVariants.{Fault, Memory}
+use Rattle.cgl_mps.specs.State.{State, Stands, IsBad, IsTaken, line_record, next_section}
+use Rattle.cgl_mps.specs.State.{Means as StateMeans}
 use Rattle.cgl_outside.proofs.SoFarLaws.{IsSoFar, IsStep, so_far_line, means_line, means_long, means_over, means_end}
 
 -- what the lines from a number on come to, after the records before them
-abbrev pub read_on : Section → List Record → List ℕ → ℕ → List (List ℕ) → Result Model (ℕ × ℕ)
+pub read_on : Section → List Record → List ℕ → ℕ → List (List ℕ) → Result Model (ℕ × ℕ)
 read_on section before text n lines = result_of (read_from deck_limits text n section before lines)
 
 pub read_whole : (text : List ℕ) → deck_result text ≡ read_on Start [] text 1 (lines_of text)
+unfolding read_on
 read_whole text = result_is text (read_from deck_limits text 1 Start [] (lines_of text)) (reads_alike deck_limits text)
 
 -- the kind of fault of a record that ends within the limit, and in which it is not
@@ -56,6 +59,7 @@ turn_is : (text : List ℕ) (n : ℕ) (section : Section) (before : List Record)
     → fault_after deck_limits text before (record_of n (section_after section line) line) ≡ fault → same_section (section_after section line) Endata ≡ ends
     → read_on section before text n (line ∷ later)
     ≡ result_of (turn fault n ends (before ++ kept (record_of n (section_after section line) line ∷ [])) (read_from deck_limits text (n + 1) (section_after section line) (before ++ kept (record_of n (section_after section line) line ∷ [])) later))
+unfolding read_on
 turn_is text n section before line later fault ends is last =
     let r = record_of n (section_after section line) line in
     ap₂ (λ f e. result_of (turn f n e (before ++ kept (r ∷ [])) (read_from deck_limits text (n + 1) (section_after section line) (before ++ kept (r ∷ [])) later))) is last
@@ -87,6 +91,7 @@ read_model text n section before line later none ends within =
 pub read_line : (text : List ℕ) (n : ℕ) (section : Section) (before : List Record) (line : List ℕ) (later : List (List ℕ))
     → kind_within before (record_of n (section_after section line) line) ≡ None → same_section (section_after section line) Endata ≡ false → is_over most_bytes text n ≡ false
     → read_on section before text n (line ∷ later) ≡ read_on (section_after section line) (before ++ kept (record_of n (section_after section line) line ∷ [])) text (n + 1) later
+unfolding read_on
 read_line text n section before line later none ends within =
     turn_is text n section before line later None false (within_fault text before (record_of n (section_after section line) line) within ∙ none) ends
 
@@ -105,6 +110,7 @@ module _ (held : Held) (name : List ℕ) (section : Section) (before : List Reco
       (λ whole line later past. read_over whole new.number section before line later past ∙ ap (λ k. Err (k, 12)) (sym at))
 
   pub no_line : (found : LineStep) → result ≡ Ok found → found ≡ End → (n : ℕ) → n ≡ new.number → Means held name deck_result (Err (n + 1, 10))
+  unfolding read_on
   no_line found is end n at =
       means_end held name 4096 deck_result (read_on section before) old new text so_far (subst (IsStep held old new) (is ∙ ap Ok end) step) (Err (n + 1, 10))
       (λ whole. ap (λ k. Err (k + 1, 10)) (sym at))
@@ -115,16 +121,23 @@ module _ (held : Held) (name : List ℕ) (section : Section) (before : List Reco
     line_step = subst (IsStep held old new) (is ∙ ap Ok is_line) step
 
     abbrev here : Record
-    here = record_of n (section_after section line) line
+    here = line_record n section line
 
     within_here : (kind : Option ℕ) → kind_within before here ≡ kind → kind_within before (record_of new.number (section_after section new.line) new.line) ≡ kind
+    unfolding line_record
     within_here kind judged = ap₂ (λ k l. kind_within before (record_of k (section_after section l) l)) (sym at) (sym same) ∙ judged
 
-    ends_here : (ends : Bool) → same_section (section_after section line) Endata ≡ ends → same_section (section_after section new.line) Endata ≡ ends
+    ends_here : (ends : Bool) → same_section (next_section section line) Endata ≡ ends → same_section (section_after section new.line) Endata ≡ ends
+    unfolding next_section
     ends_here ends e = ap (λ l. same_section (section_after section l) Endata) (sym same) ∙ e
 
     kept_here : before ++ kept (record_of new.number (section_after section new.line) new.line ∷ []) ≡ before ++ kept (here ∷ [])
+    unfolding line_record
     kept_here = ap₂ (λ k l. before ++ kept (record_of k (section_after section l) l ∷ [])) (sym at) (sym same)
+
+    section_here : section_after section new.line ≡ next_section section line
+    unfolding next_section
+    section_here = ap (section_after section) (sym same)
 
     faulty_line : (kind : ℕ) → kind_within before here ≡ Some kind → Means held name deck_result (Err (n, kind))
     faulty_line kind judged =
@@ -132,30 +145,28 @@ module _ (held : Held) (name : List ℕ) (section : Section) (before : List Reco
         (λ whole later within. read_fault whole new.number section before new.line later kind (within_here (Some kind) judged) within ∙ ap (λ k. Err (k, kind)) (sym at))
 
     -- the line's fault, or that memory was refused
-    pub bad_line : (e : ReadError) (Stood : List Record → Type 0) → Stood before
-        → (e ≡ Memory) ⊎ ((kind : ℕ) × (e ≡ Fault n kind) × ((so_far : List Record) → Stood so_far → kind_within so_far (record_of n (section_after section line) line) ≡ Some kind))
-        → MeansFault held name deck_result e
-    bad_line e Stood stood (inl memory) = subst (MeansFault held name deck_result) (sym memory) tt
-    bad_line e Stood stood (inr told) = subst (MeansFault held name deck_result) (sym told.1) (faulty_line told.0 (told.2 before stood))
+    pub bad_line : (e : ReadError) (state : State) → Stands before state → (e ≡ Memory) ⊎ ((kind : ℕ) × (e ≡ Fault n kind) × IsBad here state kind) → MeansFault held name deck_result e
+    bad_line e state stands (inl memory) = subst (MeansFault held name deck_result) (sym memory) tt
+    bad_line e state stands (inr told) = subst (MeansFault held name deck_result) (sym told.1) (faulty_line told.0 (told.2.is before stands))
 
     -- the model, at the end of the deck
-    pub last_line : (s : Section) (m : Model) → kind_within before here ≡ None → s ≡ section_after section line → same_section s Endata ≡ true → m ≡ model_of (before ++ kept (here ∷ []))
+    pub last_line : (state next : State) (s : Section) (m : Model) → Stands before state → IsTaken here state next → s ≡ next_section section line → same_section s Endata ≡ true → StateMeans next m
         → Means held name deck_result (Ok m)
-    last_line s m none stands ends made =
+    last_line state next s m stands taken at_section ends made =
         means_line held name 4096 deck_result (read_on section before) old new text so_far line_step (Ok m)
         (λ whole later within.
-        read_model whole new.number section before new.line later (within_here None none) (ends_here true (ap (λ t. same_section t Endata) (sym stands) ∙ ends)) within
+        read_model whole new.number section before new.line later (within_here None (taken.sound before stands)) (ends_here true (ap (λ t. same_section t Endata) (sym at_section) ∙ ends)) within
         ∙ ap (λ l. Ok (model_of l)) kept_here
-        ∙ ap Ok (sym made))
+        ∙ ap Ok (sym (made.is (before ++ kept (here ∷ [])) (taken.stands before stands))))
 
     -- one line further
-    pub good_line : (s : Section) → kind_within before here ≡ None → s ≡ section_after section line → same_section s Endata ≡ false
+    pub good_line : (state next : State) (s : Section) → Stands before state → IsTaken here state next → s ≡ next_section section line → same_section s Endata ≡ false
         → IsSoFar held name 4096 deck_result (read_on s (before ++ kept (here ∷ []))) new (text ++ written new.line new.has_lf)
-    good_line s none stands goes_on =
+    good_line state next s stands taken at_section goes_on =
         so_far_line held name 4096 deck_result (read_on section before) old new text so_far line_step (read_on s (before ++ kept (here ∷ [])))
         (λ whole later within.
-        read_line whole new.number section before new.line later (within_here None none) (ends_here false (ap (λ t. same_section t Endata) (sym stands) ∙ goes_on)) within
-        ∙ ap₂ (λ t l. read_on t l whole (new.number + 1) later) (ap (section_after section) (sym same) ∙ sym stands) kept_here)
+        read_line whole new.number section before new.line later (within_here None (taken.sound before stands)) (ends_here false (ap (λ t. same_section t Endata) (sym at_section) ∙ goes_on)) within
+        ∙ ap₂ (λ t l. read_on t l whole (new.number + 1) later) (section_here ∙ sym at_section) kept_here)
 
 -- the model is within the limits
 pub means_model : (held : Held) (name : List ℕ) (m : Model) → Means held name deck_result (Ok m) → IsValid m × HasDecimals m

@@ -19,7 +19,7 @@ use Rattle.cgl_decode.specs.Found.{is_data_of}
 use Rattle.cgl_decode.specs.Models.{last_or, name_in}
 use Rattle.cgl_mps.specs.Carried.{ReadColumns, ReadPairs, ReadBounds, IsCarried, counting_set, first_set, named_in, names_of, splits}
 use Rattle.cgl_mps.specs.Tables.{AreBounds, AreColumns, AreKnown, ArePairs, IsKnown, IsNext, StandOnce}
-use Rattle.cgl_mps.specs.State.{State, Stands, TakesHead, TakesTables, AreNextPairs, IsNextBound, header_sections, maximises, next_bounds, next_columns, next_pairs, row_on, says_maximise}
+use Rattle.cgl_mps.specs.State.{State, Stands, TakesHead, TakesTables, AreNextPairs, IsNextBound, IsNextRow, header_sections, maximises, next_bounds, next_columns, next_pairs, row_on, says_maximise}
 use Rattle.cgl_decode.proofs.DistinctLaws.{are_distinct, distinct_push, flip_differ, not_false, or_false_parts}
 use Rattle.cgl_decode.proofs.JudgedLaws.{NoneHolds, none_hold, earlier_hold, later_hold, same_sections}
 use Rattle.cgl_decode.proofs.ModelLaws.{rows-append}
@@ -194,6 +194,13 @@ rows_once : (names : List Word) (r : Record) (b : Bool) → AreDistinct names �
     → AreDistinct (names ++ map (λ row. row.1) (cond b (cons_option (row_in r.fields) []) []))
 rows_once names r true all new = once_case names r.fields (row_in r.fields) refl all (new refl)
 rows_once names r false all new = subst AreDistinct (sym (append-nil names)) all
+
+-- a line of a row, and of a new name
+pub next_row : (limits : Limits) (before : List Record) (state : State) (r : Record) → Stands before state → is_kept r ≡ true → first_kind ((nat_lt 4096 r.bytes, 11) ∷ deck.conditions limits before r) ≡ None
+    → r.header ≡ false → r.section ≡ Rows → IsNextRow state r
+next_row limits before state r s kept none data_line at =
+    let all = judged limits before r Rows kept none (ap₂ (λ h q. not h && same_section Rows q) data_line at) in
+    record { formed = all.0; fresh = ap (λ l. is_one_of l (field 1 r)) s.carried.rows ∙ all.1.1.1.0 }
 
 -- ---- one more record
 

@@ -4,16 +4,18 @@ use Rattle.std.specs.List.{list_any, cons_option}
 use Rattle.cgl_num.specs.Decimal.{Decimal}
 use Rattle.cgl_num.specs.NumberText.{Word, number}
 use Rattle.cgl_text.specs.Text.{is_one_of}
-use Rattle.cgl_text.specs.Conditions.{Condition}
+use Rattle.cgl_text.specs.Conditions.{Condition, first_kind}
 use Rattle.cgl_model.specs.declared.mip.RowKind.{RowKind}
+use Rattle.cgl_model.specs.declared.mip.Model.{Model}
 use Rattle.cgl_model.specs.Valid.{AreDistinct}
 use Rattle.cgl_decode.specs.declared.kinds.Section.{Section}
 use Rattle.cgl_decode.specs.declared.kinds.Section.TheVariants.{Name, Sense, Rows, Columns, Rhs, Ranges, Bounds, Unsupported, Unknown}
-use Rattle.cgl_decode.specs.Records.{Record, field, is_kept, same_section}
+use Rattle.cgl_decode.specs.Records.{Record, field, is_kept, kept, record_of, same_section, section_after}
 use Rattle.cgl_decode.specs.Sections.{sense_in, senses, row_in, rows, row_names, marker, is_marker, entry_pairs, Pair, set_in, same_set, set_pairs, Bound, bound_in}
-use Rattle.cgl_decode.specs.Faults.{Limits, is_long, rank, is_header_form, is_sense_form, no_word, each_pair, names_row, is_marker_form, is_value_of}
+use Rattle.cgl_decode.specs.Decode.{deck_limits}
+use Rattle.cgl_decode.specs.Faults.{Limits, conditions, is_long, rank, is_header_form, is_sense_form, no_word, each_pair, names_row, is_marker_form, is_value_of}
 use Rattle.cgl_decode.specs.Found.{is_data_of}
-use Rattle.cgl_decode.specs.Models.{last_or, name_in}
+use Rattle.cgl_decode.specs.Models.{last_or, model_of, name_in}
 use Rattle.cgl_mps.specs.Carried.{ReadColumns, ReadPairs, ReadBounds, after_line, after_pairs, after_bound, counting_set, IsCarried}
 use Rattle.cgl_mps.specs.Tables.{ColumnTable, PairTable, BoundTable, AreColumns, AreKnown, ArePairs, AreBounds, IsNext, StandOnce, is_marked_row}
 
@@ -114,6 +116,14 @@ abbrev pub entry_conditions : Limits → State → Word → List Pair → Pair �
 entry_conditions limits state name earlier pair =
     (not (has_row state pair.0), 5)
     ∷ (has_entry state name pair.0 || names_row earlier pair.0, 7)
+    ∷ (is_none (number pair.1), 4)
+    ∷ (nat_le limits.entries (state.columns.count + length earlier), 12)
+    ∷ []
+
+-- those on a pair whose row is known and stands at the place
+abbrev pub placed_conditions : Limits → State → Word → List Pair → ℕ → Pair → List Condition
+placed_conditions limits state name earlier place pair =
+    ((is_current state.columns name && is_marked_row state.columns place) || names_row earlier pair.0, 7)
     ∷ (is_none (number pair.1), 4)
     ∷ (nat_le limits.entries (state.columns.count + length earlier), 12)
     ∷ []
@@ -241,6 +251,11 @@ pub record TakesTables (r : Record) (old new : State) : Type 0 where
       → (is_data_of Bounds r ≡ true → IsNextBound old.columns.names read r)
       → AreBounds new.columns.names (next_bounds r read) new.bounds
 
+-- the line is of a row, and of a new name
+pub record IsNextRow (state : State) (r : Record) : Type 0 where
+  pub formed : is_none (row_in r.fields) ≡ false
+  pub fresh : has_row state (field 1 r) ≡ false
+
 -- what a new row makes of the state, and what a line makes of it that leaves a part as it was
 
 pub record SameHead (old new : State) : Type 0 where
@@ -269,3 +284,26 @@ pub record AddsRow (kind : RowKind) (name : Word) (old new : State) : Type 0 whe
 -- no name more, or one that is new
 abbrev pub MayAdd : Word → List Word → List Word → Type 0
 MayAdd name old new = (new ≡ old) ⊎ ((new ≡ old ++ name ∷ []) × (is_one_of old name ≡ false))
+
+-- what the reader's loop is told of a line and of the end
+
+-- the section of a line behind one in this section, and its record
+
+unfoldable pub next_section : Section → Word → Section
+next_section section line = section_after section line
+
+unfoldable pub line_record : ℕ → Section → Word → Record
+line_record n section line = record_of n (section_after section line) line
+
+-- the line has no fault behind those before it, and is one of the lines that the state then stands for
+pub record IsTaken (r : Record) (old new : State) : Type 0 where
+  pub sound : (before : List Record) → Stands before old → first_kind ((nat_lt 4096 r.bytes, 11) ∷ conditions deck_limits before r) ≡ None
+  pub stands : (before : List Record) → Stands before old → Stands (before ++ kept (r ∷ [])) new
+
+-- the line has a fault of this kind behind those before it
+pub record IsBad (r : Record) (state : State) (kind : ℕ) : Type 0 where
+  pub is : (before : List Record) → Stands before state → first_kind ((nat_lt 4096 r.bytes, 11) ∷ conditions deck_limits before r) ≡ Some kind
+
+-- the model that the lines mean
+pub record Means (state : State) (model : Model) : Type 0 where
+  pub is : (before : List Record) → Stands before state → model ≡ model_of before

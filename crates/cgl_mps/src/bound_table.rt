@@ -10,10 +10,8 @@ ghost use Rattle.cgl_mps.specs.Carried.{ReadBounds, after_bound, counting_set};
 ghost use Rattle.cgl_mps.specs.Tables.{AreBounds, StandOnce, bounds_on, column_bounds};
 
 use crate::bound::Bound;
+use crate::bounds::{is_below_zero, is_integer, is_upper, lower_by, upper_by, value_in, zero};
 use crate::first_set::FirstSet;
-use crate::models_bounds::{
-    is_below_zero, is_integer, is_upper, lower_by, upper_by, value_in, zero,
-};
 use crate::record::Record;
 use crate::sections::{bound_in, set_in};
 use cgl_decode::{BoundKind, Section};

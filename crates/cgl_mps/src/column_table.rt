@@ -77,6 +77,15 @@ fn push_entry(columns: &mut Vec<ReadColumn>, entry: (u32, Dec)) -> Result<(), Me
     column.entries.push(entry)
 }
 
+/// Gives back the memory that the last column, which has ended, does not take.
+fn shrink_last(columns: &mut Vec<ReadColumn>)
+    ensures { columns.new.items ≡ columns.old.items }
+{
+    if let Some(last) = columns.last_mut() {
+        last.entries.shrink_to_fit();
+    }
+}
+
 /// The mark at this place, and 0 where there is none.
 fn mark_at(marks: &[u32], place: usize) -> u32
     ensures { result ≡ unwrap_or (slice_get marks.now place) 0 }
@@ -110,7 +119,8 @@ impl ColumnTable {
 
     /// Takes in that there is one row more, in which no column has an entry.
     pub(crate) fn add_row(&mut self) -> Result<(), Memory>
-        ensures { OnOk result
+        ensures names { OnOk result (self.new.names ≡ self.old.names) }
+        ensures row { OnOk result
             ((rows : List Word) (read : ReadColumns) (name : Word)
             → AreColumns rows read self.old → AreColumns (rows ++ name ∷ []) read self.new) }
     {
@@ -192,6 +202,7 @@ impl ColumnTable {
             → AreColumns rows read self.old → is_one_of (names_of (all_of read)) name.now ≡ false
             → AreColumns rows (begun read name.now) self.new) }
     {
+        shrink_last(&mut self.columns);
         self.names.find_or_push(name)?;
         let Ok(()) = self.columns.push(ReadColumn {
             marked: self.marked,

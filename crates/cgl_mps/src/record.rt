@@ -7,7 +7,7 @@ use std::marker::Model;
 
 /// A line of a deck with its section and its fields. A line that is ignored has no fields.
 #[derive(Drop)]
-pub struct Record<'a> {
+pub(crate) struct Record<'a> {
     pub(crate) line: u64,
     pub(crate) length: usize,
     pub(crate) section: Section,
@@ -26,33 +26,33 @@ impl<'a> Model for Record<'a> {
 
 impl<'a> Record<'a> {
     /// The line's number from 1.
-    pub fn line(&self) -> u64
+    pub(crate) fn line(&self) -> u64
         ensures { result ≡ self.now.line }
     {
         self.line
     }
 
     /// The count of the line's bytes.
-    pub fn length(&self) -> usize
+    pub(crate) fn length(&self) -> usize
         ensures { result ≡ self.now.bytes }
     {
         self.length
     }
 
-    pub fn section(&self) -> Section
+    pub(crate) fn section(&self) -> Section
         ensures { result ≡ self.now.section }
     {
         self.section
     }
 
     /// Whether the line begins its section.
-    pub fn is_header(&self) -> bool
+    pub(crate) fn is_header(&self) -> bool
         ensures { result ≡ self.now.header }
     {
         self.header
     }
 
-    pub fn fields(&self) -> &[&'a [u8]]
+    pub(crate) fn fields(&self) -> &[&'a [u8]]
         ensures { map (λ f. f.now) result.now ≡ self.now.fields }
     {
         self.fields.as_slice()
@@ -60,7 +60,7 @@ impl<'a> Record<'a> {
 }
 
 /// The field at place k from 0, and an empty one where there is none.
-pub fn field<'a>(r: &Record<'a>, k: usize) -> &'a [u8]
+pub(crate) fn field<'a>(r: &Record<'a>, k: usize) -> &'a [u8]
     ensures { result.now ≡ field k r.now }
 {
     word_at(r.fields(), k)

@@ -1,12 +1,13 @@
-//! What one record, or a list of records, says.
+//! What one record says.
 
 ghost use Rattle.std.specs.Prelude.{◌≡◌, ◌≤◌, length, option_map};
 ghost use Rattle.cgl_text.specs.Text.{is_one_of};
-ghost use Rattle.cgl_decode.specs.Records.{has_header};
 ghost use Rattle.cgl_decode.specs.Sections.{sense_names, sense_in, row_kind, row_in, is_marker, pairs_of, rest, entry_pairs, set_pairs, needs_value, bound_with, bound_in, set_in, same_set};
 ghost use Rattle.cgl_decode.specs.Faults.{names_row};
+ghost use Rattle.cgl_decode.specs.Models.{name_in};
 ghost use Rattle.cgl_text.specs.Seen.{word, words};
 ghost use Rattle.cgl_mps.specs.Seen.{word_at, bound_kind};
+ghost use Rattle.cgl_mps.specs.State.{says_maximise};
 
 use crate::bound::Bound;
 use crate::record::{Record, field};
@@ -14,16 +15,17 @@ use cgl_decode::{BoundKind, Section};
 use cgl_model::RowKind;
 use cgl_text::same_bytes;
 
-/// Whether the section's header stands among the records.
-pub(crate) fn has_header(section: Section, records: &[Record]) -> bool
-    ensures { result ≡ has_header section records.now }
+// NAME
+
+/// The name that a NAME line gives the model.
+pub(crate) fn name_in<'a>(r: &Record<'a>) -> Option<&'a [u8]>
+    ensures { option_map word result ≡ name_in r.now }
 {
-    for r in records {
-        if r.is_header() && section.is(r.section()) {
-            return true;
-        }
+    if Section::Name.is(r.section()) {
+        r.fields().get(1).copied()
+    } else {
+        None
     }
-    false
 }
 
 // OBJSENSE
@@ -36,6 +38,13 @@ pub(crate) fn is_sense(text: &[u8]) -> bool
         || same_bytes(text, b"MAXIMIZE")
         || same_bytes(text, b"MIN")
         || same_bytes(text, b"MINIMIZE")
+}
+
+/// Whether the word says to maximise.
+pub(crate) fn says_maximise(text: &[u8]) -> bool
+    ensures { result ≡ says_maximise text.now }
+{
+    same_bytes(text, b"MAX") || same_bytes(text, b"MAXIMIZE")
 }
 
 /// The word that stands in the place of the sense.
