@@ -1,0 +1,4 @@
+pub mod Subset
+pub mod Greatest
+pub mod Cover
+pub mod LeastCost
