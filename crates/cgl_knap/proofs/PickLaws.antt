@@ -30,7 +30,7 @@ rest_out w weights need z c = record { size = omega (arith, c.size); heavy = c.h
 rest_in : (w : ℕ) (weights : List ℕ) (need : ℕ) (z : List Bool) → IsCover (w ∷ weights) need (true ∷ z) → IsCover weights (need - w) z
 rest_in w weights need z c = record { size = omega (arith, c.size); heavy = omega (arith, c.heavy) }
 
-no_worse_cost : (costs : List ℤ) (y z : List Bool) → IsNoWorse costs y z → value_of costs y ≤ℤ value_of costs z
+pub no_worse_cost : (costs : List ℤ) (y z : List Bool) → IsNoWorse costs y z → value_of costs y ≤ℤ value_of costs z
 no_worse_cost costs y z (inl less) = omega (arith, ints, less)
 no_worse_cost costs y z (inr same) = omega (arith, ints, same.0)
 
@@ -116,16 +116,16 @@ answers (w ∷ weights) (pos c ∷ costs) need all e =
 
 -- ---- where no set weighs so much: all items together do not
 
-all_of : List ℕ → List Bool
+pub all_of : List ℕ → List Bool
 all_of [] = []
 all_of (w ∷ weights) = true ∷ all_of weights
 
-whole_set : (weights : List ℕ) → (length (all_of weights) ≡ length weights) × (weight_of weights (all_of weights) ≡ total_weight weights)
+pub whole_set : (weights : List ℕ) → (length (all_of weights) ≡ length weights) × (weight_of weights (all_of weights) ≡ total_weight weights)
 unfolding all_of
 whole_set [] = (refl, refl)
 whole_set (w ∷ weights) = let rest = whole_set weights in (ap suc rest.0, ap (λ n. w + n) rest.1)
 
-weight_high : (weights : List ℕ) (z : List Bool) → weight_of weights z ≤ total_weight weights
+pub weight_high : (weights : List ℕ) (z : List Bool) → weight_of weights z ≤ total_weight weights
 weight_high [] z = omega arith
 weight_high (w ∷ weights) [] = omega arith
 weight_high (w ∷ weights) (true ∷ z) = omega (arith, weight_high weights z)

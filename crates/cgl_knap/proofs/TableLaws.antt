@@ -4,7 +4,7 @@ use Rattle.std.specs.Prelude.{◌+ℤ◌, ◌≤ℤ◌, ◌<ℤ◌}
 use Rattle.std.specs.Int.{int_max}
 use Rattle.std.proofs.lemmas.Int.{ints}
 use Rattle.std.proofs.lemmas.Bool.{cases_lt, cases_order}
-use Rattle.std.proofs.lemmas.List.{get_or-set_other, get_or-set_same, get_or_append_left, take-append-le, take_all}
+use Rattle.std.proofs.lemmas.List.{get_or-set_other, get_or-set_same, get_or_append_left, take-append-le, take_all, length-take, get_or-take}
 use Rattle.cgl_knap.specs.Subset.{total_value, AreValues}
 use Rattle.cgl_knap.specs.Greatest.{IsGreatest, IsTable, HasRoom}
 use Rattle.cgl_knap.proofs.GreatestLaws.{greatest_none, greatest_heavy, greatest_more, greatest_high}
@@ -87,3 +87,9 @@ table_place weights values table rest cap h t = rw (get_or_append_left table res
 
 pub table_front : (weights : List ℕ) (values : List ℤ) (table rest : List ℤ) (n : ℕ) → length table ≡ n → IsTable weights values table → IsTable weights values (take n (table ++ rest))
 table_front weights values table rest n e t = rw (take-append-le n table rest (omega (arith, e)) ∙ take_all n table (omega (arith, e))) t
+
+pub table_take : (weights : List ℕ) (values table : List ℤ) (n : ℕ) → IsTable weights values table → IsTable weights values (take n table)
+table_take weights values table n t k h =
+    let within : k < n = omega (arith, h, length-take n table) in
+    let there : k < length table = omega (arith, h, length-take n table) in
+    rw (get_or-take n table k (pos 0) within) (t k there)

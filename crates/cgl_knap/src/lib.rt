@@ -6,7 +6,9 @@
 #![tactic(auto)]
 
 mod cover;
+mod laws;
 mod table;
 
 pub use cover::best_cover;
+pub use laws::{covers, greatest_values, tables};
 pub use table::{add_item, best_value, clear};
