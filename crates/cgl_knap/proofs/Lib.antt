@@ -6,3 +6,4 @@ pub mod PickLaws
 pub mod CoverLaws
 pub mod ChoiceLaws
 pub mod WalkLaws
+pub mod KnownLaws

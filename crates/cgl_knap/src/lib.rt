@@ -6,9 +6,11 @@
 #![tactic(auto)]
 
 mod cover;
+mod known;
 mod laws;
 mod table;
 
 pub use cover::best_cover;
+pub use known::{known_covers, known_tables, known_values};
 pub use laws::{covers, greatest_values, tables};
 pub use table::{add_item, best_value, clear};
