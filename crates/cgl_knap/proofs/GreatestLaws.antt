@@ -1,10 +1,10 @@
 -- The greatest value of a set, item by item, and what there is to say of it.
-use Rattle.std.proofs.Common.{◌≡◌, ℕ, suc, ◌+◌, ◌-◌, ◌≤◌, ◌<◌, ℤ, pos, Bool, true, false, cond, List, [], ◌∷◌, length, refl, sym, ap, ◌∙◌, subst, arith, ◌⊎◌, inl, inr}
+use Rattle.std.proofs.Common.{◌≡◌, ℕ, suc, ◌-◌, ◌≤◌, ◌<◌, ℤ, pos, Bool, true, false, cond, List, [], ◌∷◌, refl, sym, ap, ◌∙◌, subst, arith, ◌⊎◌, inl, inr}
 use Rattle.std.specs.Prelude.{◌+ℤ◌, ◌≤ℤ◌, ◌↔◌, nat_lt}
 use Rattle.std.specs.Int.{int_max}
 use Rattle.std.proofs.lemmas.Int.{ints, clamps}
 use Rattle.std.proofs.lemmas.Bool.{ltb-true, ltb-false}
-use Rattle.cgl_knap.specs.Subset.{weight_of, value_of, total_value, AreValues}
+use Rattle.cgl_knap.specs.Subset.{value_of, total_value, AreValues}
 use Rattle.cgl_knap.specs.Greatest.{IsWithin, IsBound, IsGreatest}
 use Rattle.cgl_knap.proofs.ValueLaws.{value_low, value_high}
 

@@ -1,8 +1,6 @@
 -- What is so of known items, tables and covers.
-use Rattle.std.proofs.Common.{◌≡◌, ℕ, zero, suc, ◌≤◌, ℤ, pos, Bool, true, false, List, [], ◌∷◌, map, length, refl, arith}
-use Rattle.std.specs.Prelude.{◌≤ℤ◌, ◌<ℤ◌}
+use Rattle.std.proofs.Common.{◌≡◌, zero, suc, pos, Bool, true, false, List, [], ◌∷◌, map, refl, arith}
 use Rattle.std.proofs.lemmas.Int.{ints}
-use Rattle.cgl_knap.specs.Subset.{AreValues}
 use Rattle.cgl_knap.specs.Greatest.{IsBound, IsGreatest, IsTable}
 use Rattle.cgl_knap.specs.Cover.{IsPick}
 use Rattle.cgl_knap.specs.LeastCost.{least, picks}

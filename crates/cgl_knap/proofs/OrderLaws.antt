@@ -1,6 +1,6 @@
 -- An item in front of the others or behind them.
-use Rattle.std.proofs.Common.{◌≡◌, ℕ, suc, ◌+◌, ◌≤◌, ◌<◌, ℤ, pos, Bool, true, false, List, [], ◌∷◌, ◌++◌, length, refl, sym, ap, ◌∙◌, subst, arith, get_or, length-append}
-use Rattle.std.specs.Prelude.{◌+ℤ◌, ◌≤ℤ◌}
+use Rattle.std.proofs.Common.{◌≡◌, ℕ, suc, ◌≤◌, ℤ, pos, Bool, true, false, List, [], ◌∷◌, ◌++◌, length, refl, sym, ap, ◌∙◌, subst, arith, get_or, length-append}
+use Rattle.std.specs.Prelude.{◌≤ℤ◌}
 use Rattle.std.proofs.lemmas.Int.{ints}
 use Rattle.cgl_knap.specs.Subset.{weight_of, value_of}
 use Rattle.cgl_knap.specs.Greatest.{IsWithin, IsBound, IsGreatest, IsTable}
@@ -47,8 +47,7 @@ greatest_last weights values w v cap best same g = record { reached = reach g.re
         → (y : List Bool) × IsWithin (weights ++ w ∷ []) cap y × (value_of (values ++ v ∷ []) y ≡ best)
     reach [] in_z e = absurd (omega (arith, in_z.size))
     reach (b ∷ z) in_z e =
-        let size : length z ≡ length weights = omega (arith, in_z.size) in
-        (
+        let size : length z ≡ length weights = omega (arith, in_z.size) in (
           z ++ b ∷ [],
           record { size = omega (arith, length-append z (b ∷ []), length-append weights (w ∷ []), size); light = subst (λ (n : ℕ). n ≤ cap) (sym (weight_last weights w z b size)) in_z.light },
           value_last values v z b (size ∙ sym same) ∙ e,

@@ -8,7 +8,7 @@ use Rattle.std.proofs.lemmas.List.{get_or-set_other, get_or-set_same, get_or_app
 use Rattle.cgl_knap.specs.Subset.{total_value, AreValues}
 use Rattle.cgl_knap.specs.Greatest.{IsGreatest, IsTable, HasRoom}
 use Rattle.cgl_knap.proofs.GreatestLaws.{greatest_none, greatest_heavy, greatest_more, greatest_high}
-use Rattle.cgl_knap.proofs.ValueLaws.{all_drop, value_first, drop_both}
+use Rattle.cgl_knap.proofs.ValueLaws.{all_drop, value_first}
 
 -- the table of one item more: from place `from` on it has been made, and below it is as it was
 pub record IsMoreAt (weight : ℕ) (value : ℤ) (from : ℕ) (old new : List ℤ) (k : ℕ) : Type 0 where
