@@ -50,4 +50,5 @@ IsChoices weights costs choice = (k : ℕ) → k < length choice → slice_index
 
 -- for each item a row of so many places: whether it is the first one taken of those from it on
 abbrev pub AreAllChoices : List ℕ → List ℤ → ℕ → List Bool → Type 0
-AreAllChoices weights costs places choice = (i k : ℕ) → i < length weights → k < places → slice_index_or choice (i * places + k) false ≡ takes_first (drop i weights) (drop i costs) k
+AreAllChoices weights costs places choice =
+    (i k : ℕ) → i < length weights → k < places → slice_index_or choice (i * places + k) false ≡ takes_first (drop i weights) (drop i costs) k

@@ -35,8 +35,10 @@ fn add_choice(table: &mut [i128], choice: &mut [bool], weight: usize, cost: i128
     requires low { pos 0 ≤ℤ cost }
     requires room { HasRoom cost table.old }
     ensures size { length choice.new ≡ length table.old }
-    ensures table { (weights : List ℕ) (costs : List ℤ) → IsLeastTable weights costs table.old → IsLeastTable (weight ∷ weights) (cost ∷ costs) table.new }
-    ensures choice { (weights : List ℕ) (costs : List ℤ) → IsLeastTable weights costs table.old → IsChoices (weight ∷ weights) (cost ∷ costs) choice.new }
+    ensures table { (weights : List ℕ) (costs : List ℤ) → IsLeastTable weights costs table.old
+        → IsLeastTable (weight ∷ weights) (cost ∷ costs) table.new }
+    ensures choice { (weights : List ℕ) (costs : List ℤ) → IsLeastTable weights costs table.old
+        → IsChoices (weight ∷ weights) (cost ∷ costs) choice.new }
 {
     for need in (0..table.len()).rev() {
         let taken = with_cost(cost, table[need.saturating_sub(weight)]);
@@ -93,7 +95,8 @@ fn walk(weights: &[u64], places: usize, choice: &[bool], pick: &mut [bool])
     requires size { length pick.old ≡ length weights.now }
     requires some { 0 < places }
     requires choices { length choice.now ≡ length weights.now * places }
-    ensures { (costs : List ℤ) → length costs ≡ length weights.now → AreAllChoices weights.now costs places choice.now → pick.new ≡ picks weights.now costs (places - 1) }
+    ensures { (costs : List ℤ) → length costs ≡ length weights.now → AreAllChoices weights.now costs places choice.now
+        → pick.new ≡ picks weights.now costs (places - 1) }
 {
     let mut need = places - 1;
     for item in 0..weights.len() {
@@ -104,10 +107,11 @@ fn walk(weights: &[u64], places: usize, choice: &[bool], pick: &mut [bool])
 }
 
 /// The least cost of a set of items that weighs more than `cap`. None comes exactly where all items together weigh at
-/// most `cap`. Otherwise `pick` is then the set: of those of least cost the first one in the order of lists, false
-/// before true. On None `pick` is as before.
+/// most `cap`. There are as many costs as weights, none of them below 0 and all together below 2^127.
 ///
-/// The table, of `cap + 2` places, and the choices, of as many for each item, are there to work on, whatever they hold.
+/// `pick`, of a place for each item, is then the set: of those of least cost the first one in the order of lists, false
+/// before true. On None it is as before. The table, of `cap + 2` places, and the choices, of as many for each item, are
+/// there to work on, whatever they hold.
 pub fn best_cover(
     weights: &[u64],
     costs: &[i128],

@@ -4,8 +4,8 @@ ghost use Rattle.std.specs.Prelude.{ℕ, ℤ, pos, Bool, true, false, List, [], 
 ghost use Rattle.cgl_knap.specs.Greatest.{IsBound, IsGreatest, IsTable};
 ghost use Rattle.cgl_knap.specs.Cover.{IsPick};
 
-/// Greatest values, and numbers that are none. Of items of the weights 10, 20 and 30 the two heavier ones are best within
-/// 50, though the lighter ones are worth more for their weight. Of `2a + 2b + 2c + 4d <= 5` it follows that
+/// Greatest values, and numbers that are none. Of items of the weights 10, 20 and 30 the two heavier ones are best
+/// within 50, though the lighter ones are worth more for their weight. From `2a + 2b + 2c + 4d <= 5` it follows that
 /// `a + b + c + 2d <= 2`, and not that `a + b + c + 3d <= 2`.
 pub fn known_values()
     ensures no_items { IsGreatest [] [] 0 (pos 0) }
@@ -21,8 +21,8 @@ pub fn known_values()
     ensures no_bound { ¬ IsBound (2 ∷ 2 ∷ 2 ∷ 4 ∷ []) (map pos (1 ∷ 1 ∷ 1 ∷ 3 ∷ [])) 5 (pos 2) }
 {}
 
-/// Tables, and lists of numbers that are none: one that takes an item twice, one that takes it a place too early, and one
-/// of another capacity.
+/// Tables, and lists of numbers that are none: one that takes an item twice, one that takes it a place too early, and
+/// one whose places are a capacity off.
 pub fn known_tables()
     ensures none { IsTable [] [] (map pos (0 ∷ 0 ∷ 0 ∷ [])) }
     ensures one { IsTable (2 ∷ []) (map pos (3 ∷ [])) (map pos (0 ∷ 0 ∷ 3 ∷ 3 ∷ [])) }
@@ -32,9 +32,9 @@ pub fn known_tables()
     ensures shifted { ¬ IsTable (1 ∷ 2 ∷ []) (map pos (2 ∷ 3 ∷ [])) (map pos (2 ∷ 3 ∷ 5 ∷ [])) }
 {}
 
-/// Picks, and sets that are none: one that comes later at the same cost, one that costs more, and one that is too light.
-/// Of items of the weights 9, 5 and 5 the two lighter ones are the pick above 9, though the heavy one costs less for its
-/// weight.
+/// Picks, and sets that are none: one that comes later at the same cost, one that costs more, and one that is too
+/// light. Of items of the weights 9, 5 and 5 the two lighter ones are the pick above 9, though the heavy one costs less
+/// for its weight.
 pub fn known_covers()
     ensures first { IsPick (3 ∷ 4 ∷ 5 ∷ []) (map pos (0 ∷ 0 ∷ 4 ∷ [])) 9 (false ∷ true ∷ true ∷ []) }
     ensures light { IsPick (2 ∷ 2 ∷ 2 ∷ 4 ∷ []) (map pos (1 ∷ 1 ∷ 1 ∷ 6 ∷ [])) 6 (true ∷ true ∷ true ∷ false ∷ []) }
@@ -44,6 +44,7 @@ pub fn known_covers()
     ensures later { ¬ IsPick (3 ∷ 4 ∷ 5 ∷ []) (map pos (0 ∷ 0 ∷ 4 ∷ [])) 9 (true ∷ true ∷ true ∷ []) }
     ensures alike_later { ¬ IsPick (2 ∷ 2 ∷ []) (map pos (1 ∷ 1 ∷ [])) 2 (true ∷ false ∷ []) }
     ensures dear { ¬ IsPick (9 ∷ 5 ∷ 5 ∷ []) (map pos (3 ∷ 2 ∷ 2 ∷ [])) 10 (true ∷ false ∷ true ∷ []) }
-    ensures too_light { ¬ IsPick (2 ∷ 2 ∷ 2 ∷ 4 ∷ []) (map pos (1 ∷ 1 ∷ 1 ∷ 6 ∷ [])) 6 (true ∷ true ∷ false ∷ false ∷ []) }
+    ensures too_light { ¬ IsPick (2 ∷ 2 ∷ 2 ∷ 4 ∷ []) (map pos (1 ∷ 1 ∷ 1 ∷ 6 ∷ [])) 6
+        (true ∷ true ∷ false ∷ false ∷ []) }
     ensures none { (pick : List Bool) → ¬ IsPick (1 ∷ 2 ∷ []) (map pos (0 ∷ 0 ∷ [])) 4 pick }
 {}

@@ -14,11 +14,13 @@ pub fn clear(table: &mut [i128])
 }
 
 /// Makes the table one of an item more, which stands before the others. The place k of a table is for the capacity k,
-/// from 0 on, and a table of n places takes n steps at most.
+/// from 0 on. The value is not below 0, and with the greatest value of the others it is below 2^127. One step for each
+/// place at most.
 pub fn add_item(table: &mut [i128], weight: u64, value: i128)
     requires value { pos 0 ≤ℤ value }
     requires room { HasRoom value table.old }
-    ensures { (weights : List ℕ) (values : List ℤ) → IsTable weights values table.old → IsTable (weight ∷ weights) (value ∷ values) table.new }
+    ensures { (weights : List ℕ) (values : List ℤ) → IsTable weights values table.old
+        → IsTable (weight ∷ weights) (value ∷ values) table.new }
 {
     let weight = weight as usize;
     for cap in (weight..table.len()).rev() {
@@ -39,8 +41,11 @@ fn fill(weights: &[u64], values: &[i128], table: &mut [i128])
     }
 }
 
-/// The greatest value of a set of items that weighs at most `cap`. The table is one to work on, whatever it holds; its
-/// first `cap + 1` places are then the greatest values for the capacities from 0 to `cap`, and the others are as before.
+/// The greatest value of a set of items that weighs at most `cap`. There are as many values as weights, none of them
+/// below 0 and all together below 2^127.
+///
+/// The table, of `cap + 1` places at least, is there to work on, whatever it holds. Its first `cap + 1` places are then
+/// the greatest values for the capacities from 0 to `cap`, and the others are as before.
 pub fn best_value(weights: &[u64], values: &[i128], cap: u64, table: &mut [i128]) -> i128
     requires size { length values.now ≡ length weights.now }
     requires values { AreValues values.now }
