@@ -1,13 +1,13 @@
 -- A file that is read line by line: its text so far, and what the whole file means.
-use Rattle.std.proofs.Common.{◌≡◌, ◌≢◌, ◌<◌, ◌≤◌, ◌+◌, ◌-◌, ◌^◌, ℕ, Bool, true, false, List, [], ◌∷◌, ◌++◌, append-nil, append_assoc, cond, length, take, drop, get_or, replicate, Option, Some, None, IsSome, Result, Ok, Err, refl, sym, ap, ap₂, ◌∙◌, subst, arith, length-append, length-drop}
+use Rattle.std.proofs.Common.{◌≡◌, ◌<◌, ◌≤◌, ◌+◌, ◌-◌, ℕ, Bool, true, false, List, [], ◌∷◌, ◌++◌, append-nil, append_assoc, cond, length, drop, replicate, Option, Some, None, IsSome, Result, Ok, refl, sym, ap, ap₂, ◌∙◌, subst, arith, length-append, length-drop}
 use Rattle.std.specs.Prelude.{IfOk, OnOk}
 use Rattle.std.proofs.lemmas.List.{drop-drop, drop_all, length-replicate, get_or-replicate}
 use Rattle.cgl_text.specs.Text.{is_over, lines_of, most_bytes}
 use Rattle.cgl_outside.specs.Shelf.{Held, file_of}
-use Rattle.cgl_outside.specs.Front.{Follows, Stands}
+use Rattle.cgl_outside.specs.Front.{Follows}
 use Rattle.cgl_outside.specs.Line.{HasNoEnd, IsFirst, written}
 use Rattle.cgl_outside.specs.Means.{Means}
-use Rattle.cgl_outside.specs.Reading.{IsEnded, IsOpen, Passes, Reading, StepShape, Steps, begun}
+use Rattle.cgl_outside.specs.Reading.{IsEnded, IsOpen, Reading, StepShape, Steps, begun}
 use Rattle.cgl_outside.specs.declared.line_reader.LineStep.{LineStep}
 use Rattle.cgl_outside.specs.declared.line_reader.LineStep.TheVariants.{Line, TooLong, Over, End}
 use Rattle.cgl_outside.specs.declared.errors.FetchError.{FetchError}

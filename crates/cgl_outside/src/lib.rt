@@ -31,4 +31,4 @@ pub use shelf::{Failed, Shelf};
 pub use sink::Sink;
 pub use sure_shelf::SureShelf;
 pub use sure_sink::SureSink;
-pub use whole::{read_front, write_whole};
+pub use whole::write_whole;

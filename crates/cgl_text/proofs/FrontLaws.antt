@@ -1,5 +1,5 @@
 -- The lines of a front, which are those of its text but for the last, and the line that the byte past the limit stands in.
-use Rattle.std.proofs.Common.{◌≡◌, refl, sym, ap, ap₂, ◌∙◌, arith, ℕ, zero, suc, ◌+◌, ◌<◌, ◌≤◌, ◌==◌, nat_lt, Bool, true, false, cond, ◌&&◌, List, [], ◌∷◌, length, length-take, take}
+use Rattle.std.proofs.Common.{◌≡◌, refl, sym, ap, ap₂, ◌∙◌, arith, ℕ, zero, suc, ◌+◌, ◌<◌, ◌==◌, nat_lt, Bool, true, false, cond, ◌&&◌, List, [], ◌∷◌, length, length-take, take}
 use Rattle.std.specs.List.{onto_first}
 use Rattle.std.proofs.lemmas.Bool.Decides.{nat_tests}
 use Rattle.std.proofs.lemmas.List.{take_all}
@@ -68,15 +68,3 @@ pub over_last : (most : ℕ) (bytes : List ℕ) → most < length bytes → is_o
 over_last most bytes long =
     let count = length (lines_of (take (most + 1) bytes)) in
     both (nat_lt most (length bytes)) (count == count) (is_more most (length bytes) long) (same_eqb count)
-
-both_by : (a b c : Bool) → a ≡ true → c ≡ b → c ≡ (a && b)
-both_by true b c e same = same
-both_by false b c e same = cc
-
--- where a text has the byte past the limit and no more, it stands in the last line
-pub over_in_last : (most : ℕ) (bytes : List ℕ) (lines n : ℕ) → most < length bytes → length bytes ≤ most + 1 → lines ≡ length (lines_of bytes)
-    → (lines == n) ≡ is_over most bytes n
-over_in_last most bytes lines n long short count =
-    let whole : take (most + 1) bytes ≡ bytes = take_all (most + 1) bytes short in
-    let same : (lines == n) ≡ (length (lines_of (take (most + 1) bytes)) == n) = ap (λ k. k == n) count ∙ sym (ap (λ b. length (lines_of b) == n) whole) in
-    both_by (nat_lt most (length bytes)) (length (lines_of (take (most + 1) bytes)) == n) (lines == n) (is_more most (length bytes) long) same

@@ -35,24 +35,6 @@ impl Builder {
         }
     }
 
-    /// An empty text with room for this many bytes.
-    ///
-    /// # Errors
-    ///
-    /// `Memory` where memory for them is refused.
-    pub fn with_capacity(alloc: Global, bytes: usize) -> Result<Builder, Memory>
-        ensures empty { IfOk result (λ text. text.items ≡ []) }
-        ensures whole { IfOk result (λ text. text.refused ≡ false) }
-    {
-        let Ok(bytes) = Vec::with_capacity(alloc, bytes) else {
-            return Err(Memory);
-        };
-        Ok(Builder {
-            bytes,
-            refused: false,
-        })
-    }
-
     /// Puts a piece behind the text.
     pub fn append(&mut self, piece: &[u8])
         ensures { Grows piece.now self.old self.new }

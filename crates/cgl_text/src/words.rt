@@ -7,6 +7,9 @@ ghost use Rattle.cgl_text.specs.Seen.{words};
 use cgl_num::Memory;
 use std::alloc::Global;
 
+/// As many fields as a line has at most in most formats.
+const USUAL_FIELDS: usize = 5;
+
 pub fn same_bytes(a: &[u8], b: &[u8]) -> bool
     ensures { result ≡ bytes_eq a.now b.now }
 {
@@ -61,7 +64,9 @@ fn split_field(text: &[u8]) -> (&[u8], &[u8])
 pub fn fields(alloc: Global, line: &[u8]) -> Result<Vec<&[u8]>, Memory>
     ensures { IfOk result (λ found. words found.items ≡ fields_of line.now) }
 {
-    let mut found = Vec::new(alloc);
+    let Ok(mut found) = Vec::with_capacity(alloc, USUAL_FIELDS) else {
+        return Err(Memory);
+    };
     let mut rest = line;
     'fields: while !rest.is_empty() {
         if begins_blank(rest) {

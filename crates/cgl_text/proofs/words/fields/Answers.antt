@@ -9,7 +9,7 @@ fields-preserved-then-begins_blank c = ap (λ others. words c.fields.found.items
 
 pub fields-preserved : goal.fields-preserved
 fields-preserved c =
-    words_pushed _ _ _ _ c.in-Ok.ensures.items
+    words_pushed _ _ _ _ c.in-Ok-push.ensures.items
     ∙ ap (λ others. words c.fields.found.items ++ others) (sym c.split_field.ensures.fields)
     ∙ c.fields.invariant
 
