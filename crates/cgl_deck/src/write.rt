@@ -355,13 +355,9 @@ fn add_deck(output: &mut Output, model: &Model)
 pub(crate) fn deck_text(alloc: Global, model: &Model) -> Result<Vec<u8>, Memory>
     ensures { IfOk result (λ text. text.items ≡ deck_text model.now) }
 {
-    let Ok(len) = usize::try_from(deck_len(model)) else {
-        return Err(Memory);
-    };
-    let bytes = Builder::with_capacity(alloc, len)?;
     let mut output = Output {
         len: 0,
-        bytes: Some(bytes),
+        bytes: Some(Builder::new(alloc)),
     };
     add_deck(&mut output, model);
     match output.bytes {

@@ -30,7 +30,7 @@ pub struct Row {
 /// Entries of a column: rows, by their numbers from 0, with coefficients; or of a row, by columns.
 #[derive(Drop)]
 pub struct Entries {
-    items: SmallVec<(u32, Dec), 4>,
+    items: SmallVec<(u32, Dec), 1>,
 }
 
 impl std::marker::Model for Entries {

@@ -6,6 +6,7 @@ mod PlacedLaws
 mod PairTableLaws
 mod BoundTableLaws
 pub mod ColumnTableLaws
+pub mod ResolveLaws
 pub mod StateLaws
 pub mod TakeLaws
 pub mod ArmLaws

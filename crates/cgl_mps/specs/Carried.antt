@@ -1,5 +1,5 @@
 -- What is carried from line to line of the records so far.
-use Rattle.std.specs.Prelude.{◌≡◌, ℕ, ◌+◌, Bool, false, not, ◌&&◌, ◌||◌, ◌⊎◌, if◌then◌else◌, List, [], ◌∷◌, ◌++◌, codes, bytes_eq, length, map, filter, filter_map, flat_map, Option, Some, None, unwrap_or, option_map}
+use Rattle.std.specs.Prelude.{◌≡◌, ℕ, ◌+◌, Bool, false, not, ◌&&◌, ◌||◌, if◌then◌else◌, List, [], ◌∷◌, ◌++◌, codes, bytes_eq, length, map, filter, filter_map, flat_map, Option, Some, None, unwrap_or, option_map}
 use Rattle.std.specs.List.{list_any, after_first, before_first, cons_option}
 use Rattle.cgl_num.specs.NumberText.{Word}
 use Rattle.cgl_text.specs.Text.{is_one_of}
@@ -179,8 +179,6 @@ abbrev pub splits : List Record → Record → Bool
 splits records r = is_data_of Columns r && (not (is_marker r) && is_split records (field 0 r))
 
 -- the sections of pairs
-abbrev pub HasPairs : Section → Type 0
-HasPairs section = (section ≡ Rhs) ⊎ (section ≡ Ranges)
 
 -- the column of the model that this one makes
 abbrev pub made_column : List Record → ReadColumn → Column

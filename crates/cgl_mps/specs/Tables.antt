@@ -9,7 +9,9 @@ use Rattle.cgl_decode.specs.Sections.{Pair, Bound, distinct, entry_pairs}
 use Rattle.cgl_decode.specs.Faults.{names_row}
 use Rattle.cgl_decode.specs.Models.{value_at, entry_of, lower_of, upper_of, makes_integer}
 use Rattle.cgl_decode.specs.Reading.{setting, nothing}
+use Rattle.cgl_decode.specs.declared.kinds.Section.TheVariants.{Columns}
 use Rattle.cgl_mps.specs.declared.bound_table.ColumnBounds.{ColumnBounds}
+use Rattle.cgl_mps.specs.declared.resolve.Resolved.{Resolved}
 use Rattle.cgl_mps.specs.Carried.{ReadColumns, ReadPairs, ReadBounds, names_of, all_of, own_pairs}
 
 -- each name stands once
@@ -22,6 +24,24 @@ IsKnown rows pair = (is_one_of rows pair.0 ≡ true) × (is_some (number pair.1)
 
 abbrev pub AreKnown : List Word → List Pair → Type 0
 AreKnown rows pairs = AllByRecursion (IsKnown rows) pairs
+
+-- what the pairs of a column's line say by the rows: the place of the row, and the number, each where there is one
+
+abbrev pub resolved : List Word → Pair → Resolved
+resolved rows pair = record { row = position (bytes_eq pair.0) rows; value = number pair.1 }
+
+abbrev pub resolved_all : List Word → List Pair → List Resolved
+resolved_all rows pairs = map (resolved rows) pairs
+
+abbrev pub unresolved : Resolved
+unresolved = record { row = None; value = None }
+
+abbrev pub resolved_at : ℕ → List Resolved → Resolved
+resolved_at k pairs = unwrap_or (slice_get pairs k) unresolved
+
+-- the entries are those of the line, where it stands in COLUMNS
+abbrev pub IsResolved : List Word → Record → List Resolved → Type 0
+IsResolved rows r pairs = r.section ≡ Columns → pairs ≡ resolved_all rows (entry_pairs r)
 
 -- RHS and RANGES: the set that counts, and the value of each row, by the row's number
 

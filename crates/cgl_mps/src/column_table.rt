@@ -4,15 +4,15 @@ ghost use Rattle.std.specs.Prelude.{◌≡◌, ◌∷◌, ◌++◌, ◌-◌, [],
 ghost use Rattle.cgl_num.specs.Decimal.{Decimal};
 ghost use Rattle.cgl_num.specs.NumberText.{Word, number};
 ghost use Rattle.cgl_text.specs.Text.{is_one_of};
-ghost use Rattle.cgl_text.specs.Seen.{word, words};
-ghost use Rattle.cgl_decode.specs.Sections.{Pair, is_marker, pairs_of};
+ghost use Rattle.cgl_text.specs.Seen.{word};
+ghost use Rattle.cgl_decode.specs.Sections.{Pair, entry_pairs, is_marker};
 ghost use Rattle.cgl_mps.specs.Carried.{ReadColumns, after_line, after_marker, after_more, all_of, begun, names_of, no_columns};
-ghost use Rattle.cgl_mps.specs.Tables.{AreColumns, AreKnown, IsKnown, IsNext, is_marked_row};
+ghost use Rattle.cgl_mps.specs.Tables.{AreColumns, AreKnown, IsKnown, IsNext, is_marked_row, resolved, resolved_all};
 ghost use Rattle.cgl_mps.specs.State.{has_ended, is_current};
 
-use crate::numbers::number;
 use crate::record::{Record, field};
-use crate::sections::{entry_fields, is_marker};
+use crate::resolve::Resolved;
+use crate::sections::is_marker;
 use cgl_model::Entries;
 use cgl_num::{Dec, Memory};
 use cgl_text::{NameTable, same_bytes};
@@ -235,44 +235,50 @@ impl ColumnTable {
         Ok(())
     }
 
-    /// Takes a pair that is known into the column that goes on.
-    fn add_pair(&mut self, rows: &NameTable, row: &[u8], value: &[u8]) -> Result<(), Memory>
+    /// Takes a pair into the column that goes on, where it has a row and a number.
+    fn push_pair(&mut self, found: Resolved) -> Result<(), Memory>
         ensures { OnOk result
-            ((read : ReadColumns)
-            → AreColumns rows.now read self.old → IsSome read.current → IsKnown rows.now (row.now, value.now)
-            → AreColumns rows.now (after_more read ((row.now, value.now) ∷ [])) self.new) }
+            ((rows : List Word) (read : ReadColumns) (pair : Pair)
+            → AreColumns rows read self.old → IsSome read.current → IsKnown rows pair → found ≡ resolved rows pair
+            → AreColumns rows (after_more read (pair ∷ [])) self.new) }
     {
-        let Some(place) = rows.find(row) else {
+        let Some(place) = found.row else {
             return Ok(());
         };
-        let Some(value) = number(value) else {
+        let Some(value) = found.value else {
             return Ok(());
         };
         self.add_entry(place, value)
     }
 
-    /// Takes the pairs that the fields are into the column that goes on.
-    fn push_fields(&mut self, rows: &NameTable, fields: &[&[u8]]) -> Result<(), Memory>
+    /// Takes the pairs into the column that goes on.
+    fn push_pairs(&mut self, found: &[Resolved]) -> Result<(), Memory>
         ensures { OnOk result
-            ((read : ReadColumns)
-            → AreColumns rows.now read self.old → IsSome read.current → AreKnown rows.now (pairs_of (words fields.now))
-            → AreColumns rows.now (after_more read (pairs_of (words fields.now))) self.new) }
+            ((rows : List Word) (read : ReadColumns) (pairs : List Pair)
+            → AreColumns rows read self.old → IsSome read.current → AreKnown rows pairs → found.now ≡ resolved_all rows pairs
+            → AreColumns rows (after_more read pairs) self.new) }
     {
-        match fields {
-            [row, value, others @ ..] => {
-                self.add_pair(rows, row, value)?;
-                self.push_fields(rows, others)
+        match found {
+            [first, others @ ..] => {
+                self.push_pair(*first)?;
+                self.push_pairs(others)
             }
-            _ => Ok(()),
+            [] => Ok(()),
         }
     }
 
-    /// Takes in one more data line of COLUMNS.
-    pub(crate) fn add(&mut self, alloc: Global, rows: &NameTable, r: &Record) -> Result<(), Memory>
+    /// Takes in one more data line of COLUMNS, with its pairs.
+    pub(crate) fn add(
+        &mut self,
+        alloc: Global,
+        r: &Record,
+        found: &[Resolved],
+    ) -> Result<(), Memory>
         ensures { OnOk result
-            ((read : ReadColumns)
-            → AreColumns rows.now read self.old → (is_marker r.now ≡ false → IsNext rows.now read r.now)
-            → AreColumns rows.now (after_line read r.now) self.new) }
+            ((rows : List Word) (read : ReadColumns)
+            → AreColumns rows read self.old → found.now ≡ resolved_all rows (entry_pairs r.now)
+            → (is_marker r.now ≡ false → IsNext rows read r.now)
+            → AreColumns rows (after_line read r.now) self.new) }
     {
         if is_marker(r) {
             self.end_current(field(r, 2));
@@ -280,10 +286,10 @@ impl ColumnTable {
         }
         let name = field(r, 0);
         if self.is_current(name) {
-            return self.push_fields(rows, entry_fields(r));
+            return self.push_pairs(found);
         }
         self.begin(alloc, name)?;
-        self.push_fields(rows, entry_fields(r))
+        self.push_pairs(found)
     }
 
     /// The names, and the columns in the order of their names.

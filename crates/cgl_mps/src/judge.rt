@@ -1,20 +1,22 @@
 //! The first fault of a line, by what is carried of the lines before it.
 
 ghost use Rattle.std.specs.Prelude.{◌≡◌, ◌∷◌, ◌+◌, ◌&&◌, ◌≤◌, [], Some, is_some, length, nat_le, option_map};
+ghost use Rattle.cgl_num.specs.NumberText.{Word, number};
 ghost use Rattle.cgl_text.specs.Conditions.{first_kind};
 ghost use Rattle.cgl_text.specs.Seen.{word, words};
 ghost use Rattle.cgl_decode.specs.declared.kinds.Section.TheVariants.{Sense};
 ghost use Rattle.cgl_decode.specs.Decode.{deck_limits};
 ghost use Rattle.cgl_decode.specs.Faults.{each_pair, is_header_form, is_long, is_marker_form, is_value_of, rank, takes};
-ghost use Rattle.cgl_decode.specs.Sections.{pairs_of};
+ghost use Rattle.cgl_decode.specs.Sections.{entry_pairs, pairs_of};
 ghost use Rattle.cgl_mps.specs.State.{bound_conditions, column_conditions, columns_conditions, data_conditions, entry_conditions, has_header, header_conditions, is_behind, is_current, is_misplaced, line_conditions, needs, pair_conditions, pairs_in, placed_conditions, row_conditions, sense_conditions, set_conditions, value_conditions, value_of};
-ghost use Rattle.cgl_mps.specs.Tables.{is_marked_row};
+ghost use Rattle.cgl_mps.specs.Tables.{IsResolved, is_marked_row, resolved, resolved_all};
 
 use crate::bound::Bound;
 use crate::counts::pair_count;
 use crate::numbers::{limit_of, number};
 use crate::record::{Record, field};
 use crate::records::is_kept;
+use crate::resolve::{Resolved, resolved_at};
 use crate::sections::{
     bound_in, entry_fields, is_marker, is_sense, names_row, needs_value, row_in, set_fields,
     word_at,
@@ -22,7 +24,7 @@ use crate::sections::{
 use crate::state::State;
 use cgl_decode::{BoundKind, Section};
 use cgl_model::{MOST_COLUMNS, MOST_ENTRIES, MOST_ROWS};
-use cgl_num::{Limit, is_number_text};
+use cgl_num::{Dec, Limit, is_number_text};
 use cgl_text::same_bytes;
 
 fn is_long(name: &[u8]) -> bool
@@ -184,7 +186,8 @@ fn is_full(state: &State, earlier: &[&[u8]]) -> bool
 fn has_entry(state: &State, name: &[u8], place: usize) -> bool
     ensures { result ≡ (is_current state.now.columns name.now && is_marked_row state.now.columns place) }
 {
-    state.columns().is_current(name) && state.columns().has_entry(place)
+    // few rows have an entry already, so the names are seldom compared
+    state.columns().has_entry(place) && state.columns().is_current(name)
 }
 
 /// The first fault of a pair whose row is known and stands at the place.
@@ -194,16 +197,16 @@ fn placed_fault(
     earlier: &[&[u8]],
     place: usize,
     row: &[u8],
-    value: &[u8],
+    value: Option<Dec>,
 ) -> Option<u8>
-    ensures { result
-        ≡ first_kind (placed_conditions deck_limits state.now name.now
-        (pairs_of (words earlier.now)) place (row.now, value.now)) }
+    ensures { (text : Word) → value ≡ number text
+        → result ≡ first_kind (placed_conditions deck_limits state.now name.now
+        (pairs_of (words earlier.now)) place (row.now, text)) }
 {
     if has_entry(state, name, place) || names_row(earlier, row) {
         return Some(7);
     }
-    if number(value).is_none() {
+    if value.is_none() {
         return Some(4);
     }
     if is_full(state, earlier) {
@@ -212,26 +215,28 @@ fn placed_fault(
     None
 }
 
+/// The first fault of a pair with this row, of which this was found.
 fn entry_fault(
     state: &State,
     name: &[u8],
     earlier: &[&[u8]],
     row: &[u8],
-    value: &[u8],
+    pair: Resolved,
 ) -> Option<u8>
-    ensures { result
-        ≡ first_kind (entry_conditions deck_limits state.now name.now
-        (pairs_of (words earlier.now)) (row.now, value.now)) }
+    ensures { (text : Word) → pair ≡ resolved state.now.rows (row.now, text)
+        → result ≡ first_kind (entry_conditions deck_limits state.now name.now
+        (pairs_of (words earlier.now)) (row.now, text)) }
 {
-    match state.rows().find(row) {
-        Some(place) => placed_fault(state, name, earlier, place, row, value),
+    match pair.row {
+        Some(place) => placed_fault(state, name, earlier, place, row, pair.value),
         None => Some(5),
     }
 }
 
-/// The first fault of at most two pairs.
-fn entries_fault(state: &State, name: &[u8], fields: &[&[u8]]) -> Option<u8>
-    requires { length fields.now ≤ 5 }
+/// The first fault of at most two pairs, of which this was found.
+fn entries_fault(state: &State, name: &[u8], fields: &[&[u8]], pairs: &[Resolved]) -> Option<u8>
+    requires few { length fields.now ≤ 5 }
+    requires found { pairs.now ≡ resolved_all state.now.rows (pairs_of (words fields.now)) }
     ensures { result
         ≡ first_kind (each_pair (entry_conditions deck_limits state.now name.now) []
         (pairs_of (words fields.now))) }
@@ -239,7 +244,7 @@ fn entries_fault(state: &State, name: &[u8], fields: &[&[u8]]) -> Option<u8>
     if fields.len() < 2 {
         return None;
     }
-    if let Some(kind) = entry_fault(state, name, &[], word_at(fields, 0), word_at(fields, 1)) {
+    if let Some(kind) = entry_fault(state, name, &[], word_at(fields, 0), resolved_at(pairs, 0)) {
         return Some(kind);
     }
     if fields.len() < 4 {
@@ -250,12 +255,13 @@ fn entries_fault(state: &State, name: &[u8], fields: &[&[u8]]) -> Option<u8>
         name,
         &fields[..2],
         word_at(fields, 2),
-        word_at(fields, 3),
+        resolved_at(pairs, 1),
     )
 }
 
-fn column_fault(state: &State, r: &Record) -> Option<u8>
-    requires { length r.now.fields ≤ 5 }
+fn column_fault(state: &State, r: &Record, pairs: &[Resolved]) -> Option<u8>
+    requires few { length r.now.fields ≤ 5 }
+    requires found { pairs.now ≡ resolved_all state.now.rows (entry_pairs r.now) }
     ensures { result ≡ first_kind (column_conditions deck_limits state.now r.now) }
 {
     let name = field(r, 0);
@@ -265,13 +271,14 @@ fn column_fault(state: &State, r: &Record) -> Option<u8>
     if state.columns().has_ended(name) {
         return Some(8);
     }
-    if !state.columns().is_current(name) && state.columns().len() >= MOST_COLUMNS {
+    if state.columns().len() >= MOST_COLUMNS && !state.columns().is_current(name) {
         return Some(12);
     }
-    entries_fault(state, name, entry_fields(r))
+    entries_fault(state, name, entry_fields(r), pairs)
 }
 
-fn columns_fault(state: &State, r: &Record) -> Option<u8>
+fn columns_fault(state: &State, r: &Record, pairs: &[Resolved]) -> Option<u8>
+    requires { pairs.now ≡ resolved_all state.now.rows (entry_pairs r.now) }
     ensures { result ≡ first_kind (columns_conditions deck_limits state.now r.now) }
 {
     let count = r.fields().len();
@@ -279,7 +286,7 @@ fn columns_fault(state: &State, r: &Record) -> Option<u8>
         return Some(3);
     }
     if !is_marker(r) {
-        return column_fault(state, r);
+        return column_fault(state, r, pairs);
     }
     if !is_marker_form(r) {
         return Some(9);
@@ -421,13 +428,14 @@ fn bound_fault(state: &State, r: &Record) -> Option<u8>
 
 // a line
 
-fn data_fault(state: &State, r: &Record) -> Option<u8>
+fn data_fault(state: &State, r: &Record, pairs: &[Resolved]) -> Option<u8>
+    requires { IsResolved state.now.rows r.now pairs.now }
     ensures { result ≡ first_kind (data_conditions r.now.section deck_limits state.now r.now) }
 {
     match r.section() {
         Section::Sense => sense_fault(state, r),
         Section::Rows => row_fault(state, r),
-        Section::Columns => columns_fault(state, r),
+        Section::Columns => columns_fault(state, r, pairs),
         Section::Rhs => set_fault(Section::Rhs, state, r),
         Section::Ranges => set_fault(Section::Ranges, state, r),
         Section::Bounds => bound_fault(state, r),
@@ -436,7 +444,8 @@ fn data_fault(state: &State, r: &Record) -> Option<u8>
 }
 
 /// The kind of fault that the line is behind the lines so far, if it is one and ends within the limit on bytes.
-pub(crate) fn line_fault(state: &State, r: &Record) -> Option<u8>
+pub(crate) fn line_fault(state: &State, r: &Record, pairs: &[Resolved]) -> Option<u8>
+    requires { IsResolved state.now.rows r.now pairs.now }
     ensures { result ≡ first_kind (line_conditions deck_limits state.now r.now) }
 {
     if r.length() > 4096 {
@@ -448,5 +457,5 @@ pub(crate) fn line_fault(state: &State, r: &Record) -> Option<u8>
     if r.is_header() {
         return header_fault(state, r);
     }
-    data_fault(state, r)
+    data_fault(state, r, pairs)
 }

@@ -14,6 +14,7 @@ mod pair_table;
 mod read;
 mod record;
 mod records;
+mod resolve;
 mod sections;
 mod state;
 

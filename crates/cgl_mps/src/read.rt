@@ -11,10 +11,12 @@ ghost use Rattle.cgl_decode.specs.DeckResult.{deck_result};
 ghost use Rattle.cgl_decode.specs.Faults.{conditions};
 ghost use Rattle.cgl_decode.specs.Records.{Record as Said, kept};
 ghost use Rattle.cgl_model.specs.declared.mip.Model.{Model as Mip};
+ghost use Rattle.cgl_mps.specs.Tables.{IsResolved};
 ghost use Rattle.cgl_mps.specs.State.{IsBad, IsTaken, Means as StateMeans, Stands, line_record, next_section};
 
 use crate::record::Record;
 use crate::records::{is_kept, record_of};
+use crate::resolve::{Resolved, resolve};
 use crate::state::State;
 use cgl_decode::Section;
 use cgl_model::Model;
@@ -26,13 +28,14 @@ use std::alloc::Global;
 const LONGEST_LINE: u64 = 4096;
 
 /// Takes in the record, where it has fields.
-fn keep(alloc: Global, state: &mut State, r: &Record) -> Result<(), Memory>
+fn keep(alloc: Global, state: &mut State, r: &Record, pairs: &[Resolved]) -> Result<(), Memory>
+    requires { IsResolved state.old.rows r.now pairs.now }
     ensures { OnOk result ((before : List Said) → Stands before state.old
         → first_kind ((nat_lt 4096 r.now.bytes, 11) ∷ conditions deck_limits before r.now) ≡ None
         → Stands (before ++ kept (r.now ∷ [])) state.new) }
 {
     if is_kept(r) {
-        state.push(alloc, r)
+        state.push(alloc, r, pairs)
     } else {
         Ok(())
     }
@@ -43,6 +46,7 @@ fn keep(alloc: Global, state: &mut State, r: &Record) -> Result<(), Memory>
 fn take_line(
     alloc: Global,
     state: &mut State,
+    pairs: &mut Vec<Resolved>,
     n: u64,
     section: Section,
     line: &[u8],
@@ -56,10 +60,14 @@ fn take_line(
     let Ok(r) = record_of(alloc, n, section, line) else {
         return Err(ReadError::Memory);
     };
-    if let Some(kind) = state.fault(&r) {
+    let Ok(()) = resolve(state.rows(), &r, pairs) else {
+        return Err(ReadError::Memory);
+    };
+    let pairs = pairs.as_slice();
+    if let Some(kind) = state.fault(&r, pairs) {
         return Err(ReadError::Fault { line: n, kind });
     }
-    let Ok(()) = keep(alloc, state, &r) else {
+    let Ok(()) = keep(alloc, state, &r, pairs) else {
         return Err(ReadError::Memory);
     };
     Ok(r.section())
@@ -84,13 +92,21 @@ fn read_lines<S: Shelf>(
     ensures writes { S.failed_writes shelf.new ≡ S.failed_writes shelf.old }
 {
     let mut section = Section::Start;
+    let mut pairs = Vec::new(alloc);
     let Ok(mut lines) = Lines::start(alloc, name, LONGEST_LINE) else {
         return Err(ReadError::Memory);
     };
     'lines: loop {
         match lines.next(shelf) {
             Ok(LineStep::Line) => {
-                section = take_line(alloc, state, lines.number(), section, lines.bytes())?;
+                section = take_line(
+                    alloc,
+                    state,
+                    &mut pairs,
+                    lines.number(),
+                    section,
+                    lines.bytes(),
+                )?;
                 if section.is(Section::End) {
                     return Ok(());
                 }

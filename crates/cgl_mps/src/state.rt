@@ -6,6 +6,8 @@ ghost use Rattle.cgl_decode.specs.declared.kinds.Section.TheVariants.{Bounds, Co
 ghost use Rattle.cgl_decode.specs.Decode.{deck_limits};
 ghost use Rattle.cgl_decode.specs.Faults.{conditions};
 ghost use Rattle.cgl_decode.specs.Records.{Record as Line, is_kept};
+ghost use Rattle.cgl_decode.specs.Sections.{entry_pairs};
+ghost use Rattle.cgl_mps.specs.Tables.{IsResolved, resolved_all};
 ghost use Rattle.cgl_mps.specs.State.{AddsRow, IsNextRow, Means, SameHead, SameTables, Stands, TakesHead, TakesTables, has_row, pairs_in};
 
 use crate::bound_table::BoundTable;
@@ -14,6 +16,7 @@ use crate::judge::line_fault;
 use crate::made::{columns_of, rows_of};
 use crate::pair_table::PairTable;
 use crate::record::Record;
+use crate::resolve::Resolved;
 use crate::sections::{name_in, row_in, says_maximise, sense_in};
 use cgl_decode::Section;
 use cgl_model::{Model as Mip, RowKind, Seq};
@@ -109,11 +112,12 @@ impl State {
     }
 
     /// The kind of fault that the line is behind the lines so far, if it is one and ends within the limit on bytes.
-    pub(crate) fn fault(&self, r: &Record) -> Option<u8>
+    pub(crate) fn fault(&self, r: &Record, pairs: &[Resolved]) -> Option<u8>
+        requires { IsResolved self.now.rows r.now pairs.now }
         ensures { (before : List Line) → Stands before self.now
             → result ≡ first_kind ((nat_lt 4096 r.now.bytes, 11) ∷ conditions deck_limits before r.now) }
     {
-        line_fault(self, r)
+        line_fault(self, r, pairs)
     }
 
     /// Takes in what the line says of all but the tables.
@@ -154,12 +158,13 @@ impl State {
     }
 
     /// Takes in a data line of COLUMNS.
-    fn add_entries(&mut self, alloc: Global, r: &Record) -> Result<(), Memory>
+    fn add_entries(&mut self, alloc: Global, r: &Record, pairs: &[Resolved]) -> Result<(), Memory>
+        requires { pairs.now ≡ resolved_all self.old.rows (entry_pairs r.now) }
         ensures head { OnOk result (SameHead self.old self.new) }
         ensures tables { OnOk result (r.now.header ≡ false → r.now.section ≡ Columns → TakesTables r.now self.old self.new) }
     {
         let count = self.columns.len();
-        self.columns.add(alloc, &self.rows, r)?;
+        self.columns.add(alloc, r, pairs)?;
         if count < self.columns.len() {
             self.bounds.add_column()?;
         }
@@ -203,14 +208,15 @@ impl State {
     }
 
     /// Takes in a data line.
-    fn take_data(&mut self, alloc: Global, r: &Record) -> Result<(), Memory>
+    fn take_data(&mut self, alloc: Global, r: &Record, pairs: &[Resolved]) -> Result<(), Memory>
+        requires { IsResolved self.old.rows r.now pairs.now }
         ensures head { OnOk result (SameHead self.old self.new) }
         ensures tables { OnOk result (r.now.header ≡ false → (r.now.section ≡ Rows → IsNextRow self.old r.now)
             → TakesTables r.now self.old self.new) }
     {
         match r.section() {
             Section::Rows => self.add_named_row(r),
-            Section::Columns => self.add_entries(alloc, r),
+            Section::Columns => self.add_entries(alloc, r, pairs),
             Section::Rhs => self.add_right_sides(alloc, r),
             Section::Ranges => self.add_ranges(alloc, r),
             Section::Bounds => self.add_bound(alloc, r),
@@ -219,7 +225,8 @@ impl State {
     }
 
     /// Takes in what the line says of the tables.
-    fn take_tables(&mut self, alloc: Global, r: &Record) -> Result<(), Memory>
+    fn take_tables(&mut self, alloc: Global, r: &Record, pairs: &[Resolved]) -> Result<(), Memory>
+        requires { IsResolved self.old.rows r.now pairs.now }
         ensures head { OnOk result (SameHead self.old self.new) }
         ensures tables { OnOk result ((r.now.header ≡ false → r.now.section ≡ Rows → IsNextRow self.old r.now)
             → TakesTables r.now self.old self.new) }
@@ -227,17 +234,23 @@ impl State {
         if r.is_header() {
             return Ok(());
         }
-        self.take_data(alloc, r)
+        self.take_data(alloc, r, pairs)
     }
 
     /// Takes in one more line, which has fields. Want of memory leaves a part of it.
-    pub(crate) fn push(&mut self, alloc: Global, r: &Record) -> Result<(), Memory>
-        requires { is_kept r.now ≡ true }
+    pub(crate) fn push(
+        &mut self,
+        alloc: Global,
+        r: &Record,
+        pairs: &[Resolved],
+    ) -> Result<(), Memory>
+        requires kept { is_kept r.now ≡ true }
+        requires found { IsResolved self.old.rows r.now pairs.now }
         ensures { OnOk result ((before : List Line) → Stands before self.old
             → first_kind ((nat_lt 4096 r.now.bytes, 11) ∷ conditions deck_limits before r.now) ≡ None
             → Stands (before ++ r.now ∷ []) self.new) }
     {
-        self.take_tables(alloc, r)?;
+        self.take_tables(alloc, r, pairs)?;
         self.take_head(alloc, r)
     }
 

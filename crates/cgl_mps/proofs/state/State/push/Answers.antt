@@ -5,5 +5,5 @@ pub returns : goal.returns
 returns c =
     let took = c.in_ok-take_tables.ensures in
     on_ok_with c.take_head.result
-    (λ head rest before stands none. line_stands before c.args.r.now c.args.self.now c.take_tables.new.self c.take_head.new.self stands c.requires none took.head took.tables head rest)
+    (λ head rest before stands none. line_stands before c.args.r.now c.args.self.now c.take_tables.new.self c.take_head.new.self stands c.requires.kept none took.head took.tables head rest)
     c.take_head.ensures.head c.take_head.ensures.tables
