@@ -7,6 +7,7 @@ mod lines;
 mod models;
 mod names;
 mod numbers;
+mod points;
 mod runs;
 mod vast;
 
@@ -24,6 +25,7 @@ fn tell(rt: &impl Print, alloc: Global, files: &mut SureShelf, line: &str) -> Op
         "violation" => models::tell_violation(rt, alloc, rest),
         "names" => names::tell_names(rt, alloc, rest),
         "deck" => models::tell_deck(rt, alloc, files, rest),
+        "point" => points::tell_point(rt, alloc, rest),
         "lines" => lines::tell_lines(rt, alloc, rest),
         "dribble" => lines::tell_dribbled(rt, alloc, rest),
         "vast" => vast::tell_vast(rt, alloc, rest),
