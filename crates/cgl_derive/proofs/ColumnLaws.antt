@@ -5,10 +5,11 @@ use Rattle.cgl_model.specs.declared.mip.Model.{Model}
 use Rattle.cgl_model.specs.IntegerForm.{forms_of}
 use Rattle.cgl_derive.specs.declared.step.Lin.{Lin}
 use Rattle.cgl_derive.specs.declared.step.Round.{Round}
+use Rattle.cgl_derive.specs.declared.step.Knap.{Knap}
 use Rattle.cgl_derive.specs.declared.step.Step.{Step, out-Step}
 use Rattle.cgl_derive.specs.declared.step.Step.TheOpen as step
 use Rattle.cgl_derive.specs.declared.step.Derivation.{Derivation, out-Derivation}
-use Rattle.cgl_derive.specs.Derives.{AreColumns, AreRight, Derives, IsRightIn, IsRightLin, IsRightRound, Judge, LastIs, Layer, Part, claim_in, claim_of, parts_of}
+use Rattle.cgl_derive.specs.Derives.{AreColumns, AreRight, Derives, IsRightIn, IsRightKnap, IsRightLin, IsRightRound, Judge, LastIs, Layer, Part, claim_in, claim_of, parts_of}
 use Rattle.cgl_derive.specs.Layers.{ProvesInside}
 use Rattle.cgl_derive.specs.Meaning.{meaning}
 use Rattle.cgl_derive.proofs.LayerLaws.{from_level}
@@ -21,11 +22,16 @@ round_columns : (m : Model) (from : Option Ineq) (round : Round) → IsRightRoun
 round_columns m None round right = absurd right
 round_columns m (Some from) round right = right.columns
 
+knap_columns : (m : Model) (from : Option Ineq) (knap : Knap) → IsRightKnap m from knap → AreColumns m knap.claim.terms
+knap_columns m None knap right = absurd right
+knap_columns m (Some from) knap right = right.columns
+
 layer_columns : (m : Model) (shared : List Ineq) (inner : Judge) (givens claims : List Ineq) (layer : Layer) → IsRightIn m shared inner givens claims layer
     → AreColumns m (claim_in layer).terms
 layer_columns m shared inner givens claims (step.Lin lin) right = lin_columns m (parts_of (meaning (forms_of m).sides shared givens claims) lin.refs) lin right
 layer_columns m shared inner givens claims (step.Round round) right = round_columns m (meaning (forms_of m).sides shared givens claims round.from) round right
 layer_columns m shared inner givens claims (step.Split s) right = right.claim_columns
+layer_columns m shared inner givens claims (step.Knap knap) right = knap_columns m (meaning (forms_of m).sides shared givens claims knap.from) knap right
 
 last_columns : (m : Model) (shared : List Ineq) (inner : Judge) (givens claims : List Ineq) (steps : List Step) (goal : Ineq) → AreRight m shared inner givens claims steps
     → LastIs steps goal → AreColumns m goal.terms

@@ -8,6 +8,8 @@ pub mod NarrowLaws
 pub mod RoundingLaws
 pub mod DivisionLaws
 pub mod RoundSound
+pub mod KnapSound
+pub mod KnapLists
 pub mod Sound
 pub mod LayerLaws
 pub mod ColumnLaws

@@ -18,13 +18,15 @@ use Rattle.cgl_derive.specs.declared.step.Ref.{Ref}
 use Rattle.cgl_derive.specs.declared.step.Ref.TheVariants as by
 use Rattle.cgl_derive.specs.declared.step.Lin.{Lin}
 use Rattle.cgl_derive.specs.declared.step.Round.{Round}
+use Rattle.cgl_derive.specs.declared.step.Knap.{Knap}
 use Rattle.cgl_derive.specs.declared.step.Step.{Step, out-Step}
 use Rattle.cgl_derive.specs.declared.step.Step.TheOpen as step
 use Rattle.cgl_derive.specs.declared.step.Split.{Split, out-Split}
 use Rattle.cgl_derive.specs.declared.step.Derivation.{Derivation, out-Derivation}
 use Rattle.cgl_derive.specs.Meaning.{side_at, meaning}
-use Rattle.cgl_derive.specs.Derives.{Layer, Part, claim_in, claim_of, AreIntegers, weighted, onto_parts, parts_of, LinIsRight, IsRightLin, IsRightRound, SplitIsRight, below, above, Judge, IsRightIn, IsAbsurd, Proves, DerivesWithin, Derives}
+use Rattle.cgl_derive.specs.Derives.{Layer, Part, claim_in, claim_of, AreIntegers, weighted, onto_parts, parts_of, LinIsRight, IsRightLin, IsRightRound, IsRightKnap, SplitIsRight, below, above, Judge, IsRightIn, IsAbsurd, Proves, DerivesWithin, Derives}
 use Rattle.cgl_derive.specs.Soundness.{AreMet, ArePartsMet, IsSoundAt}
+use Rattle.cgl_derive.proofs.KnapSound.{knap_sound}
 use Rattle.cgl_derive.proofs.RoundSound.{whole_sum, rounding_sound}
 use Rattle.cgl_derive.proofs.SumLaws.{dot_same, weighted_sum, times_sum}
 
@@ -133,6 +135,10 @@ round_meets : (m : Model) (x : Point) (round : Round) (o : Option Ineq) → IsFe
 round_meets m x round None f h right = absurd right
 round_meets m x round (Some from) f h right = rounding_sound m from round.claim round.g x right f (h from refl)
 
+knap_meets : (m : Model) (x : Point) (knap : Knap) (o : Option Ineq) → IsFeasible m x → ((c : Ineq) → o ≡ Some c → Meets x c) → IsRightKnap m o knap → Meets x knap.claim
+knap_meets m x knap None f h right = absurd right
+knap_meets m x knap (Some from) f h right = knap_sound m from knap.claim x right f (h from refl)
+
 split_meets : (m : Model) (x : Point) (p : List Term) (p0 : ℤ) (claim : Ineq) → IsFeasible m x → AreIntegers m p → (Meets x (below p p0) → Meets x claim) → (Meets x (above p p0) → Meets x claim) → Meets x claim
 split_meets m x p p0 claim f all left right = ⊎_elim left right (either_side m x p p0 f all)
 
@@ -152,6 +158,8 @@ meets_step m shared x inner sides f ss sound givens claims (step.Lin lin) gs cs 
 meets_step m shared x inner sides f ss sound givens claims (step.Round round) gs cs right =
     round_meets m x round (meaning (forms_of m).sides shared givens claims round.from) f (λ c e. meets_meaning m x shared givens claims round.from c sides ss gs cs e) right
 meets_step m shared x inner sides f ss sound givens claims (step.Split s) gs cs right = split_sound m x inner givens claims s f sound gs cs right
+meets_step m shared x inner sides f ss sound givens claims (step.Knap knap) gs cs right =
+    knap_meets m x knap (meaning (forms_of m).sides shared givens claims knap.from) f (λ c e. meets_meaning m x shared givens claims knap.from c sides ss gs cs e) right
 
 absurd_meets : (x : Point) (claim : Ineq) → pos 0 <ℤ x.d → IsAbsurd claim → Meets x claim → ⊥
 absurd_meets x claim h a met =

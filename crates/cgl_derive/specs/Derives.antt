@@ -1,5 +1,5 @@
 -- When a list of steps proves an inequality.
-use Rattle.std.specs.Prelude.{◌≡◌, ◌⊎◌, ℕ, zero, suc, ◌+◌, ◌*◌, ◌^◌, ◌<◌, ◌==◌, ℤ, pos, ◌+ℤ◌, ◌-ℤ◌, ◌*ℤ◌, ◌≤ℤ◌, ◌<ℤ◌, unsigned_abs, Bool, false, IsTrue, List, [], ◌∷◌, ◌++◌, length, if◌then◌else◌, Option, Some, None, option_map, unwrap_or, slice_get}
+use Rattle.std.specs.Prelude.{◌≡◌, ◌⊎◌, ℕ, zero, suc, ◌+◌, ◌*◌, ◌^◌, ◌<◌, ◌≤◌, ◌==◌, ℤ, pos, ◌+ℤ◌, ◌-ℤ◌, ◌*ℤ◌, ◌≤ℤ◌, ◌<ℤ◌, unsigned_abs, Bool, false, IsTrue, List, [], ◌∷◌, ◌++◌, length, if◌then◌else◌, Option, Some, None, option_map, unwrap_or, slice_get}
 use Rattle.std.specs.List.{AllByRecursion, AllZip}
 use lib.IntN.{neg_ℤ}
 use Rattle.cgl_model.specs.declared.linear.Ineq.{Ineq}
@@ -9,10 +9,13 @@ use Rattle.cgl_model.specs.Inequality.{Term}
 use Rattle.cgl_derive.specs.declared.step.Ref.{Ref}
 use Rattle.cgl_derive.specs.declared.step.Lin.{Lin}
 use Rattle.cgl_derive.specs.declared.step.Round.{Round}
+use Rattle.cgl_derive.specs.declared.step.Knap.{Knap}
 use Rattle.cgl_derive.specs.declared.step.Step.{Step, out-Step}
 use Rattle.cgl_derive.specs.declared.step.Step.TheOpen as step
 use Rattle.cgl_derive.specs.declared.step.Split.{Split, out-Split}
 use Rattle.cgl_derive.specs.declared.step.Derivation.{Derivation, out-Derivation}
+use Rattle.cgl_derive.specs.Binary.{AreBinary, HoldsAtBits}
+use Rattle.cgl_derive.specs.Knapsack.{IsSameSign, capacity, total_magnitude}
 use Rattle.cgl_derive.specs.Meaning.{meaning}
 
 -- one level of a step
@@ -23,6 +26,7 @@ abbrev pub claim_in : Layer → Ineq
 claim_in (step.Lin lin) = lin.claim
 claim_in (step.Round round) = round.claim
 claim_in (step.Split split) = (out-Split split).claim
+claim_in (step.Knap knap) = knap.claim
 
 abbrev pub claim_of : Step → Ineq
 claim_of s = claim_in (out-Step s)
@@ -106,6 +110,24 @@ abbrev pub IsRightRound : Model → Option Ineq → Round → Type 0
 IsRightRound m None round = ⊥
 IsRightRound m (Some from) round = RoundIsRight m from round.g round.claim
 
+-- ---- knapsacks
+
+-- from an inequality over binary columns, whose capacity is from 0 on and small, each point of zeros and ones that meets
+-- it meets the claim; the claim has columns of it alone, with coefficients of the same sign
+pub record KnapIsRight (m : Model) (from : Ineq) (claim : Ineq) : Type 0 where
+  pub columns : AreColumns m claim.terms
+  pub binary : AreBinary m from.terms
+  pub room : pos 0 ≤ℤ capacity from
+  pub small : length from.terms * (unsigned_abs (capacity from) + 2) ≤ 50000000
+  pub narrow_from : total_magnitude from.terms + unsigned_abs from.rhs < 2 ^ 127
+  pub signs : AllByRecursion (λ t. IsSameSign (coefficient t.0 from.terms) t.1) claim.terms
+  pub narrow_claim : total_magnitude claim.terms + unsigned_abs claim.rhs < 2 ^ 127
+  pub holds : HoldsAtBits m from claim
+
+abbrev pub IsRightKnap : Model → Option Ineq → Knap → Type 0
+IsRightKnap m None knap = ⊥
+IsRightKnap m (Some from) knap = KnapIsRight m from knap.claim
+
 -- ---- lists of steps, under givens and visible claims
 
 -- `p x <= p0`, and `p x >= p0 + 1`
@@ -132,6 +154,7 @@ abbrev pub IsRightIn : Model → List Ineq → Judge → List Ineq → List Ineq
 IsRightIn m shared inner givens claims (step.Lin lin) = IsRightLin m (parts_of (meaning (forms_of m).sides shared givens claims) lin.refs) lin
 IsRightIn m shared inner givens claims (step.Round round) = IsRightRound m (meaning (forms_of m).sides shared givens claims round.from) round
 IsRightIn m shared inner givens claims (step.Split s) = SplitIsRight m inner givens claims s
+IsRightIn m shared inner givens claims (step.Knap knap) = IsRightKnap m (meaning (forms_of m).sides shared givens claims knap.from) knap
 
 abbrev pub IsRight : Model → List Ineq → Judge → List Ineq → List Ineq → Step → Type 0
 IsRight m shared inner givens claims s = IsRightIn m shared inner givens claims (out-Step s)

@@ -1,5 +1,8 @@
+pub mod Binary
+pub mod Knapsack
 pub mod Meaning
 pub mod Derives
+pub mod KnapsackLists
 pub mod Layers
 pub mod Rounding
 pub mod Soundness

@@ -15,7 +15,10 @@ ghost use Rattle.cgl_model.specs.Rising.{IsRising};
 ghost use Rattle.cgl_derive.specs.declared.step.Derivation.{Derivation, out-Derivation};
 ghost use Rattle.cgl_derive.specs.declared.step.Split.{Split, out-Split};
 ghost use Rattle.cgl_derive.specs.declared.step.Step.{Step};
-ghost use Rattle.cgl_derive.specs.Derives.{AreColumns, AreIntegers, Derives, DerivesWithin, EndsIn, LastIs, Layer, LinIsRight, Part, RoundIsRight, SplitIsRight, above, below, coefficient};
+ghost use Rattle.cgl_derive.specs.Binary.{HoldsAtBits};
+ghost use Rattle.cgl_derive.specs.Derives.{AreColumns, AreIntegers, Derives, DerivesWithin, EndsIn, KnapIsRight, LastIs, Layer, LinIsRight, Part, RoundIsRight, SplitIsRight, above, below, coefficient};
+ghost use Rattle.cgl_derive.specs.Knapsack.{IsSameSign};
+ghost use Rattle.cgl_derive.specs.KnapsackLists.{HoldsAtLists};
 ghost use Rattle.cgl_derive.specs.Layers.{AreLayersRight, LayersEndIn, ProvesInside, derivation, rolled};
 ghost use Rattle.cgl_derive.specs.Rounding.{ceiling, divides, divides_all, divisor_of, rounded};
 ghost use Rattle.cgl_derive.specs.Soundness.{AreMet, ArePartsMet, IsSoundAt};
@@ -23,9 +26,9 @@ ghost use Rattle.cgl_derive.specs.Totals.{AreNarrow, IsSumOf, ProvesClaim, Total
 
 use cgl_model::sides_meaning;
 
-/// What a right step claims holds where what it starts from does; for rounding steps see `rounding`. One of the two
-/// assumptions of a split holds at each feasible point, so that the claim holds where the lists of the branches are
-/// sound.
+/// What a right step claims holds where what it starts from does; for rounding steps see `rounding`, and for knapsack
+/// steps `knapsacks`. One of the two assumptions of a split holds at each feasible point, so that the claim holds where
+/// the lists of the branches are sound.
 pub fn steps()
     ensures lin { (m : Model) (parts : List Part) (q : ℤ) (claim : Ineq) (x : Point) → LinIsRight m parts q claim → IsPoint m x
         → ArePartsMet x parts → Meets x claim }
@@ -67,6 +70,14 @@ pub fn rounding()
         → RoundIsRight m from g (rounded g from) }
     ensures only { (m : Model) (from claim : Ineq) (g : ℤ) → RoundIsRight m from g claim → claim ≡ rounded g from }
     ensures divided { (m : Model) (from claim : Ineq) (g : ℤ) → RoundIsRight m from g claim → IsTrue (divides_all g from.terms) }
+{}
+
+/// A feasible point that meets an inequality meets what a right knapsack step claims from it. The last condition of such
+/// a step is one on lists of zeros and ones over the columns of that inequality.
+pub fn knapsacks()
+    ensures sound { (m : Model) (from claim : Ineq) (x : Point) → KnapIsRight m from claim → IsFeasible m x → Meets x from → Meets x claim }
+    ensures lists { (m : Model) (from claim : Ineq) → IsRising from.terms → AreColumns m from.terms
+        → AllByRecursion (λ t. IsSameSign (coefficient t.0 from.terms) t.1) claim.terms → HoldsAtBits m from claim ↔ HoldsAtLists from claim }
 {}
 
 /// What divides a number, a number rounded up, and the gcd of the coefficients.

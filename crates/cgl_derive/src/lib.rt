@@ -18,7 +18,7 @@ pub use division::{ceiling, divides, divides_all, divisor_of, rounded};
 pub use known::{
     known_coefficients, known_continuous, known_contradiction, known_depths, known_derivations,
 };
-pub use laws::{coefficient_laws, divisors, lists, rounding, soundness, steps, weighted_sums};
-pub use step::{Derivation, Lin, Ref, Round, Split, Step};
+pub use laws::{coefficient_laws, divisors, knapsacks, lists, rounding, soundness, steps, weighted_sums};
+pub use step::{Derivation, Knap, Lin, Ref, Round, Split, Step};
 pub use sum::Sum;
 pub use total::Total;

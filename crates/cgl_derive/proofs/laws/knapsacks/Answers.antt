@@ -1,0 +1,9 @@
+use Rattle.cgl_derive.proofs.KnapLists.{knap_lists}
+use Rattle.cgl_derive.proofs.KnapSound.{knap_sound}
+use Rattle.cgl_derive.proofs.laws.knapsacks.Goals as goal
+
+pub returns-clause-sound : goal.returns-clause-sound
+returns-clause-sound c = knap_sound
+
+pub returns-clause-lists : goal.returns-clause-lists
+returns-clause-lists c = knap_lists
