@@ -20,12 +20,12 @@ use Rattle.cgl_derive.specs.Layers.{rolled, derivation, ProvesInside, AreLayersR
 use Rattle.cgl_derive.proofs.LayerLaws.{derived, derived_within}
 use Rattle.cgl_derive.specs.KnownDerivations.{one_column, two_columns, infeasible, ineq, at_least, at_most_one, end_of_row, lin, round, cases, halved, by_three, too_great, summed, too_wide, other_column, left_case, by_cases, nested, over_continuous, contradiction, repeated_column}
 
-derives : (m : Model) (shared : List Ineq) (n : ℕ) (givens claims : List Ineq) (layers : List Layer) (goal : Ineq) → AreLayersRight m shared (ProvesInside m shared n) givens claims layers → LayersEndIn layers goal
+pub derives : (m : Model) (shared : List Ineq) (n : ℕ) (givens claims : List Ineq) (layers : List Layer) (goal : Ineq) → AreLayersRight m shared (ProvesInside m shared n) givens claims layers → LayersEndIn layers goal
     → DerivesWithin m shared n givens claims (rolled layers) goal
 derives m shared n givens claims layers goal right end = (derived_within m shared n givens claims layers goal).1 (right, end)
 
 -- a first step that is not right
-refuted : (m : Model) (shared : List Ineq) (layer : Layer) (layers : List Layer) (goal : Ineq) → (IsRightIn m shared (ProvesInside m shared 64) [] [] layer → ⊥) → Derives m shared (derivation (layer ∷ layers)) goal → ⊥
+pub refuted : (m : Model) (shared : List Ineq) (layer : Layer) (layers : List Layer) (goal : Ineq) → (IsRightIn m shared (ProvesInside m shared 64) [] [] layer → ⊥) → Derives m shared (derivation (layer ∷ layers)) goal → ⊥
 refuted m shared layer layers goal wrong d = wrong ((derived m shared (layer ∷ layers) goal).0 d).0.0
 
 -- ---- over one column

@@ -11,6 +11,8 @@ pub mod RoundSound
 pub mod KnapSound
 pub mod KnapLists
 pub mod Sound
+pub mod BookSound
 pub mod LayerLaws
 pub mod ColumnLaws
 pub mod KnownLaws
+pub mod KnownKnapsackLaws

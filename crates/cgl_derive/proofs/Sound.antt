@@ -123,7 +123,7 @@ either_side m x p p0 f all =
 
 -- ---- lists of steps
 
-all_push : {A : Type 0} (P : A → Type 0) (xs : List A) (a : A) → AllByRecursion P xs → P a → AllByRecursion P (xs ++ a ∷ [])
+pub all_push : {A : Type 0} (P : A → Type 0) (xs : List A) (a : A) → AllByRecursion P xs → P a → AllByRecursion P (xs ++ a ∷ [])
 all_push P [] a all h = (h, tt)
 all_push P (x ∷ xs) a all h = (all.0, all_push P xs a all.1 h)
 

@@ -4,7 +4,9 @@ pub mod Meaning
 pub mod Derives
 pub mod KnapsackLists
 pub mod Layers
+pub mod Books
 pub mod Rounding
 pub mod Soundness
 pub mod Totals
 pub mod KnownDerivations
+pub mod KnownKnapsacks

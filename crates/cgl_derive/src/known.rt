@@ -2,11 +2,12 @@
 
 ghost use Rattle.std.specs.Prelude.{ℤ, pos, negsuc, ◌^◌, [], ◌∷◌};
 ghost use Rattle.cgl_model.specs.declared.linear.Ineq.{Ineq};
-ghost use Rattle.cgl_model.specs.declared.places.End.TheVariants.{Upper};
+ghost use Rattle.cgl_model.specs.declared.places.End.TheVariants.{Lower, Upper};
 ghost use Rattle.cgl_derive.specs.declared.step.Ref.TheVariants.{Given, Shared, Step as Claim};
 ghost use Rattle.cgl_derive.specs.Derives.{Derives, LinIsRight};
 ghost use Rattle.cgl_derive.specs.Layers.{derivation};
 ghost use Rattle.cgl_derive.specs.KnownDerivations.{at_least, at_most_one, by_cases, by_three, contradiction, end_of_row, halved, infeasible, nested, one_column, other_column, over_continuous, repeated_column, summed, too_great, too_wide, two_columns};
+ghost use Rattle.cgl_derive.specs.KnownKnapsacks.{at_most, both_signs, by_knap, complemented, end_of_first, enough, four_weights, great_multiple, lifted_cover, lifted_too_far, one_of_two, turned};
 
 /// Over `2x <= 3` with x integer, `-x >= -1` follows by rounding and by cases; and what is not right proves nothing: no
 /// steps, a divisor of another number, another claim, a reference to nothing, a negative multiplier, a sum of
@@ -49,4 +50,27 @@ pub fn known_contradiction()
 /// The coefficient of a column that a list of terms has twice is the sum of both: `x >= 1` does not give `x - 5x >= 1`.
 pub fn known_coefficients()
     ensures { ¬ LinIsRight one_column ((at_least (pos 1) (pos 1), pos 1) ∷ []) (pos 1) repeated_column }
+{}
+
+/// Over `2a + 2b + 2c + 4d <= 5`, `3a + 4b - 5c <= 3` and `3a + 4b + 5c >= 4`, all binary, knapsack steps; and what is
+/// not right: a coefficient one too far, a side without the claim's columns, a reference to nothing, a coefficient of the
+/// other sign, a column that is not binary, and a capacity below 0.
+pub fn known_knapsacks()
+    ensures cover { Derives four_weights [] (by_knap (end_of_row Upper) lifted_cover) lifted_cover }
+    ensures both_signs { Derives both_signs [] (by_knap (end_of_row Upper) complemented) complemented }
+    ensures enough { Derives enough [] (by_knap (end_of_row Lower) one_of_two) one_of_two }
+    ensures too_far { (goal : Ineq) → ¬ Derives four_weights [] (by_knap (end_of_row Upper) lifted_too_far) goal }
+    ensures columns { (goal : Ineq) → ¬ Derives four_weights [] (by_knap (end_of_first Upper) lifted_cover) goal }
+    ensures none { (goal : Ineq) → ¬ Derives four_weights [] (by_knap (Claim 0) lifted_cover) goal }
+    ensures sign { (goal : Ineq) → ¬ Derives both_signs [] (by_knap (end_of_row Upper) turned) goal }
+    ensures binary { (goal : Ineq) → ¬ Derives one_column [] (by_knap (end_of_row Upper) at_most_one) goal }
+    ensures room { (goal : Ineq) → ¬ Derives four_weights (at_least (pos 1) (pos 2) ∷ []) (by_knap (Shared 0) (at_least (pos 1) (pos 1))) goal }
+{}
+
+/// The limits of knapsack steps: `1 * (b + 2)` is 50,000,000 and one above it, and sums of magnitudes reach 2^127.
+pub fn known_limits()
+    ensures full { Derives four_weights (at_most (negsuc 49999997) ∷ []) (by_knap (Shared 0) at_most_one) at_most_one }
+    ensures too_large { (goal : Ineq) → ¬ Derives four_weights (at_most (negsuc 49999998) ∷ []) (by_knap (Shared 0) at_most_one) goal }
+    ensures from { (goal : Ineq) → ¬ Derives four_weights (great_multiple (pos (2 ^ 126)) ∷ []) (by_knap (Shared 0) (at_least (pos 1) (pos 1))) goal }
+    ensures claim { (goal : Ineq) → ¬ Derives four_weights (at_least (pos 1) (pos 1) ∷ []) (by_knap (Shared 0) (great_multiple (pos (2 ^ 126)))) goal }
 {}

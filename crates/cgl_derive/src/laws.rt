@@ -12,10 +12,12 @@ ghost use Rattle.cgl_model.specs.Inequality.{AreColumnsBelow, Meets, Term};
 ghost use Rattle.cgl_model.specs.IntegerForm.{negated};
 ghost use Rattle.cgl_model.specs.Point.{Point};
 ghost use Rattle.cgl_model.specs.Rising.{IsRising};
+ghost use Rattle.cgl_derive.specs.declared.book.Book.{Book};
 ghost use Rattle.cgl_derive.specs.declared.step.Derivation.{Derivation, out-Derivation};
 ghost use Rattle.cgl_derive.specs.declared.step.Split.{Split, out-Split};
 ghost use Rattle.cgl_derive.specs.declared.step.Step.{Step};
 ghost use Rattle.cgl_derive.specs.Binary.{HoldsAtBits};
+ghost use Rattle.cgl_derive.specs.Books.{BookIsRight, inequalities};
 ghost use Rattle.cgl_derive.specs.Derives.{AreColumns, AreIntegers, Derives, DerivesWithin, EndsIn, KnapIsRight, LastIs, Layer, LinIsRight, Part, RoundIsRight, SplitIsRight, above, below, coefficient};
 ghost use Rattle.cgl_derive.specs.Knapsack.{IsSameSign};
 ghost use Rattle.cgl_derive.specs.KnapsackLists.{HoldsAtLists};
@@ -58,6 +60,15 @@ pub fn soundness()
         → IsSoundAt x (DerivesWithin m shared n) }
     ensures derivation { (m : Model) (shared : List Ineq) (d : Derivation) (goal : Ineq) (x : Point) → HasDecimals m → Derives m shared d goal
         → IsFeasible m x → AreMet x shared → Meets x goal }
+{
+    sides_meaning();
+}
+
+/// Each feasible point of the model meets what a right book has: each inequality that is shared, by induction over those
+/// before it, and each cut.
+pub fn books()
+    ensures { (m : Model) (book : Book) (x : Point) → HasDecimals m → BookIsRight m book → IsFeasible m x
+        → AreMet x (inequalities book.shared) × AreMet x (inequalities book.cuts) }
 {
     sides_meaning();
 }

@@ -2,6 +2,7 @@
 #![tactic(auto)]
 
 mod answer;
+mod book;
 mod coefficients;
 mod columns;
 mod division;
@@ -12,13 +13,14 @@ mod sum;
 mod total;
 
 pub use answer::{Answer, Candidate};
+pub use book::Book;
 pub use coefficients::coefficient_of;
 pub use columns::{are_columns, are_integers, is_integer};
 pub use division::{ceiling, divides, divides_all, divisor_of, rounded};
 pub use known::{
-    known_coefficients, known_continuous, known_contradiction, known_depths, known_derivations,
+    known_coefficients, known_continuous, known_contradiction, known_depths, known_derivations, known_knapsacks, known_limits,
 };
-pub use laws::{coefficient_laws, divisors, knapsacks, lists, rounding, soundness, steps, weighted_sums};
+pub use laws::{books, coefficient_laws, divisors, knapsacks, lists, rounding, soundness, steps, weighted_sums};
 pub use step::{Derivation, Knap, Lin, Ref, Round, Split, Step};
 pub use sum::Sum;
 pub use total::Total;
