@@ -16,3 +16,4 @@ pub mod LayerLaws
 pub mod ColumnLaws
 pub mod KnownLaws
 pub mod KnownKnapsackLaws
+pub mod KnownBookLaws

@@ -10,3 +10,4 @@ pub mod Soundness
 pub mod Totals
 pub mod KnownDerivations
 pub mod KnownKnapsacks
+pub mod KnownBooks

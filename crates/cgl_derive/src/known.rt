@@ -4,8 +4,10 @@ ghost use Rattle.std.specs.Prelude.{ℤ, pos, negsuc, ◌^◌, [], ◌∷◌};
 ghost use Rattle.cgl_model.specs.declared.linear.Ineq.{Ineq};
 ghost use Rattle.cgl_model.specs.declared.places.End.TheVariants.{Lower, Upper};
 ghost use Rattle.cgl_derive.specs.declared.step.Ref.TheVariants.{Given, Shared, Step as Claim};
+ghost use Rattle.cgl_derive.specs.Books.{BookIsRight};
 ghost use Rattle.cgl_derive.specs.Derives.{Derives, LinIsRight};
 ghost use Rattle.cgl_derive.specs.Layers.{derivation};
+ghost use Rattle.cgl_derive.specs.KnownBooks.{beyond_book, circular_book, lacking_book, plain_book, shared_book, three_binaries};
 ghost use Rattle.cgl_derive.specs.KnownDerivations.{at_least, at_most_one, by_cases, by_three, contradiction, end_of_row, halved, infeasible, nested, one_column, other_column, over_continuous, repeated_column, summed, too_great, too_wide, two_columns};
 ghost use Rattle.cgl_derive.specs.KnownKnapsacks.{at_most, both_signs, by_knap, complemented, end_of_first, enough, four_weights, great_multiple, lifted_cover, lifted_too_far, one_of_two, turned};
 
@@ -73,4 +75,15 @@ pub fn known_limits()
     ensures too_large { (goal : Ineq) → ¬ Derives four_weights (at_most (negsuc 49999998) ∷ []) (by_knap (Shared 0) at_most_one) goal }
     ensures from { (goal : Ineq) → ¬ Derives four_weights (great_multiple (pos (2 ^ 126)) ∷ []) (by_knap (Shared 0) (at_least (pos 1) (pos 1))) goal }
     ensures claim { (goal : Ineq) → ¬ Derives four_weights (at_least (pos 1) (pos 1) ∷ []) (by_knap (Shared 0) (great_multiple (pos (2 ^ 126)))) goal }
+{}
+
+/// Over `3a + 3b + 3c <= 5`, all binary, two cuts that begin with the same division are right, and so they are where the
+/// division is shared; and what is not right: cuts from a shared inequality that is not there, one that is derived from
+/// itself, and one with a column that the model does not have, whatever derives it.
+pub fn known_books()
+    ensures plain { BookIsRight three_binaries plain_book }
+    ensures shared { BookIsRight three_binaries shared_book }
+    ensures lacking { ¬ BookIsRight three_binaries lacking_book }
+    ensures circular { ¬ BookIsRight three_binaries circular_book }
+    ensures beyond { ¬ BookIsRight infeasible beyond_book }
 {}

@@ -18,7 +18,7 @@ pub use coefficients::coefficient_of;
 pub use columns::{are_columns, are_integers, is_integer};
 pub use division::{ceiling, divides, divides_all, divisor_of, rounded};
 pub use known::{
-    known_coefficients, known_continuous, known_contradiction, known_depths, known_derivations, known_knapsacks, known_limits,
+    known_books, known_coefficients, known_continuous, known_contradiction, known_depths, known_derivations, known_knapsacks, known_limits,
 };
 pub use laws::{books, coefficient_laws, divisors, knapsacks, lists, rounding, soundness, steps, weighted_sums};
 pub use step::{Derivation, Knap, Lin, Ref, Round, Split, Step};
