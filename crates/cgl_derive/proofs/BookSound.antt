@@ -22,7 +22,7 @@ shared_met m x before (e ∷ entries) sides f met all =
     let first : Derives m before e.1 e.0 = subst (λ (list : List Ineq). Derives m list e.1 e.0) (append-nil before) (all 0 e refl) in
     let here : Meets x e.0 = sound m before e.1 e.0 x sides first f met in
     let later : (k : ℕ) (entry : Entry) → slice_get entries k ≡ Some entry → Derives m ((before ++ e.0 ∷ []) ++ inequalities (take k entries)) entry.1 entry.0 =
-        λ k entry is. subst (λ (list : List Ineq). Derives m list entry.1 entry.0) (sym (append_assoc before (e.0 ∷ []) (inequalities (take k entries)))) (all (suc k) entry is) in
+    λ k entry is. subst (λ (list : List Ineq). Derives m list entry.1 entry.0) (sym (append_assoc before (e.0 ∷ []) (inequalities (take k entries)))) (all (suc k) entry is) in
     (here, shared_met m x (before ++ e.0 ∷ []) entries sides f (all_push (Meets x) before e.0 met here) later)
 
 cuts_met : (m : Model) (x : Point) (shared : List Ineq) (entries : List Entry) → SidesAreMet m x → IsFeasible m x → AreMet x shared

@@ -166,6 +166,16 @@ head_stands t (u ∷ terms) r = r.0.not_zero
 head_number : (t : Term) (terms : List Term) → IsRising (t ∷ terms) → coefficient t.0 (t ∷ terms) ≡ t.1
 head_number t terms r = coefficient_at (t ∷ terms) 0 t r (omega arith)
 
+own_more : (t : Term) (whole more : List Term) → AllByRecursion (λ u. t.0 < u.0) more → AllByRecursion (λ s. coefficient s.0 whole ≡ s.1) more
+    → AllByRecursion (λ s. coefficient s.0 (t ∷ whole) ≡ s.1) more
+own_more t whole [] above all = tt
+own_more t whole (s ∷ more) above all =
+    (unit_other s.0 t.0 t.1 (coefficient s.0 whole) (λ e. let less = above.0 in omega (arith, e, less)) ∙ all.0, own_more t whole more above.1 all.1)
+
+pub own_coefficients : (terms : List Term) → IsRising terms → AllByRecursion (λ t. coefficient t.0 terms ≡ t.1) terms
+own_coefficients [] r = tt
+own_coefficients (t ∷ terms) r = (head_number t terms r, own_more t terms terms (rising_head t terms r) (own_coefficients terms (rising_tail t terms r)))
+
 -- a column below the first
 number_below : (j : ℕ) (t : Term) (terms : List Term) → IsRising (t ∷ terms) → j < t.0 → coefficient j (t ∷ terms) ≡ pos 0
 number_below j t terms r less = coefficient_other j (t ∷ terms) ((λ e. omega (arith, less, e)), other_above j terms (above_all j t.0 terms less (rising_head t terms r)))

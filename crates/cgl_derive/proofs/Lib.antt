@@ -10,6 +10,7 @@ pub mod DivisionLaws
 pub mod RoundSound
 pub mod KnapSound
 pub mod KnapLists
+pub mod KnapLiterals
 pub mod Sound
 pub mod BookSound
 pub mod LayerLaws

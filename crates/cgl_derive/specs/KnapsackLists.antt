@@ -1,9 +1,9 @@
--- Lists of zeros and ones over the columns of one inequality.
-use Rattle.std.specs.Prelude.{◌≡◌, ℤ, pos, ◌+ℤ◌, ◌≤ℤ◌, Bool, true, false, List, [], ◌∷◌, length, map}
+-- Lists of zeros and ones over the columns of one inequality, and over its literals.
+use Rattle.std.specs.Prelude.{◌≡◌, ℤ, pos, ◌+ℤ◌, ◌-ℤ◌, ◌≤ℤ◌, unsigned_abs, Bool, true, false, List, [], ◌∷◌, length, map}
 use Rattle.cgl_model.specs.declared.linear.Ineq.{Ineq}
 use Rattle.cgl_model.specs.Inequality.{Term}
 use Rattle.cgl_derive.specs.Derives.{coefficient}
-use Rattle.cgl_derive.specs.Knapsack.{coefficients}
+use Rattle.cgl_derive.specs.Knapsack.{capacity, coefficients, positive_total}
 
 -- the coefficients of one list of terms at the columns of another
 abbrev pub coefficients_at : List Term → List Term → List ℤ
@@ -20,3 +20,12 @@ chosen_sum (a ∷ numbers) (false ∷ z) = chosen_sum numbers z
 abbrev pub HoldsAtLists : Ineq → Ineq → Type 0
 HoldsAtLists from claim =
     (z : List Bool) → length z ≡ length from.terms → from.rhs ≤ℤ chosen_sum (coefficients from.terms) z → claim.rhs ≤ℤ chosen_sum (coefficients_at from.terms claim.terms) z
+
+abbrev pub sizes : List ℤ → List ℤ
+sizes numbers = map (λ a. pos (unsigned_abs a)) numbers
+
+-- each set of literals that weighs at most the capacity counts for at most what the other inequality leaves
+abbrev pub HoldsAtLiterals : Ineq → Ineq → Type 0
+HoldsAtLiterals from claim =
+    (y : List Bool) → length y ≡ length from.terms → chosen_sum (sizes (coefficients from.terms)) y ≤ℤ capacity from
+    → chosen_sum (sizes (coefficients_at from.terms claim.terms)) y ≤ℤ (positive_total (coefficients_at from.terms claim.terms) -ℤ claim.rhs)

@@ -20,7 +20,7 @@ ghost use Rattle.cgl_derive.specs.Binary.{HoldsAtBits};
 ghost use Rattle.cgl_derive.specs.Books.{BookIsRight, inequalities};
 ghost use Rattle.cgl_derive.specs.Derives.{AreColumns, AreIntegers, Derives, DerivesWithin, EndsIn, KnapIsRight, LastIs, Layer, LinIsRight, Part, RoundIsRight, SplitIsRight, above, below, coefficient};
 ghost use Rattle.cgl_derive.specs.Knapsack.{IsSameSign};
-ghost use Rattle.cgl_derive.specs.KnapsackLists.{HoldsAtLists};
+ghost use Rattle.cgl_derive.specs.KnapsackLists.{HoldsAtLists, HoldsAtLiterals};
 ghost use Rattle.cgl_derive.specs.Layers.{AreLayersRight, LayersEndIn, ProvesInside, derivation, rolled};
 ghost use Rattle.cgl_derive.specs.Rounding.{ceiling, divides, divides_all, divisor_of, rounded};
 ghost use Rattle.cgl_derive.specs.Soundness.{AreMet, ArePartsMet, IsSoundAt};
@@ -84,11 +84,14 @@ pub fn rounding()
 {}
 
 /// A feasible point that meets an inequality meets what a right knapsack step claims from it. The last condition of such
-/// a step is one on lists of zeros and ones over the columns of that inequality.
+/// a step is one on lists of zeros and ones over the columns of that inequality, and so one on sets of its literals, each
+/// a column or its complement: those within the capacity. So it is told by the greatest of a knapsack.
 pub fn knapsacks()
     ensures sound { (m : Model) (from claim : Ineq) (x : Point) → KnapIsRight m from claim → IsFeasible m x → Meets x from → Meets x claim }
     ensures lists { (m : Model) (from claim : Ineq) → IsRising from.terms → AreColumns m from.terms
         → AllByRecursion (λ t. IsSameSign (coefficient t.0 from.terms) t.1) claim.terms → HoldsAtBits m from claim ↔ HoldsAtLists from claim }
+    ensures literals { (from claim : Ineq) → IsRising from.terms
+        → AllByRecursion (λ t. IsSameSign (coefficient t.0 from.terms) t.1) claim.terms → HoldsAtLists from claim ↔ HoldsAtLiterals from claim }
 {}
 
 /// What divides a number, a number rounded up, and the gcd of the coefficients.

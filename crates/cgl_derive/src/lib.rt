@@ -15,12 +15,15 @@ mod total;
 pub use answer::{Answer, Candidate};
 pub use book::Book;
 pub use coefficients::coefficient_of;
-pub use columns::{are_columns, are_integers, is_integer};
+pub use columns::{are_binary, are_columns, are_integers, is_binary, is_integer};
 pub use division::{ceiling, divides, divides_all, divisor_of, rounded};
 pub use known::{
-    known_books, known_coefficients, known_continuous, known_contradiction, known_depths, known_derivations, known_knapsacks, known_limits,
+    known_books, known_coefficients, known_continuous, known_contradiction, known_depths,
+    known_derivations, known_knapsacks, known_limits,
 };
-pub use laws::{books, coefficient_laws, divisors, knapsacks, lists, rounding, soundness, steps, weighted_sums};
+pub use laws::{
+    books, coefficient_laws, divisors, knapsacks, lists, rounding, soundness, steps, weighted_sums,
+};
 pub use step::{Derivation, Knap, Lin, Ref, Round, Split, Step};
 pub use sum::Sum;
 pub use total::Total;

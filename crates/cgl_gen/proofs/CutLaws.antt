@@ -6,11 +6,12 @@ use Rattle.cgl_model.specs.Inequality.{AreColumnsBelow}
 use Rattle.cgl_model.specs.Point.{Point}
 use Rattle.cgl_derive.specs.declared.answer.Candidate.{Candidate}
 use Rattle.cgl_derive.specs.declared.step.Derivation.{out-Derivation}
+use Rattle.cgl_derive.specs.declared.step.Knap.{Knap}
 use Rattle.cgl_derive.specs.declared.step.Lin.{Lin}
 use Rattle.cgl_derive.specs.declared.step.Round.{Round}
 use Rattle.cgl_derive.specs.declared.step.Step.{Step, out-Step}
 use Rattle.cgl_derive.specs.declared.step.Step.TheOpen as step
-use Rattle.cgl_derive.specs.Derives.{AreRight, DerivesWithin, IsRightIn, IsRightLin, IsRightRound, Judge, LastIs, Layer, Part, claim_in, claim_of}
+use Rattle.cgl_derive.specs.Derives.{AreRight, DerivesWithin, IsRightIn, IsRightKnap, IsRightLin, IsRightRound, Judge, LastIs, Layer, Part, claim_in, claim_of}
 use Rattle.cgl_gen.specs.CutLaws.{IsCutAt}
 
 abbrev IsOver : Model → Ineq → Type 0
@@ -24,10 +25,15 @@ round_over : (m : Model) (o : Option Ineq) (round : Round) → IsRightRound m o 
 round_over m None round right = absurd right
 round_over m (Some from) round right = right.columns
 
+knap_over : (m : Model) (o : Option Ineq) (knap : Knap) → IsRightKnap m o knap → IsOver m knap.claim
+knap_over m None knap right = absurd right
+knap_over m (Some from) knap right = right.columns
+
 step_over : (m : Model) (shared : List Ineq) (inner : Judge) (givens claims : List Ineq) (s : Layer) → IsRightIn m shared inner givens claims s → IsOver m (claim_in s)
 step_over m shared inner givens claims (step.Lin lin) right = lin_over m _ lin right
 step_over m shared inner givens claims (step.Round round) right = round_over m _ round right
 step_over m shared inner givens claims (step.Split s) right = right.claim_columns
+step_over m shared inner givens claims (step.Knap knap) right = knap_over m _ knap right
 
 last_over : (m : Model) (shared : List Ineq) (inner : Judge) (givens claims : List Ineq) (steps : List Step) (goal : Ineq) → AreRight m shared inner givens claims steps → LastIs steps goal → IsOver m goal
 last_over m shared inner givens claims [] goal right last = absurd last

@@ -7,10 +7,10 @@ use Rattle.cgl_derive.specs.declared.step.Step.{Step, roll-Step, out-roll-Step}
 use Rattle.cgl_derive.specs.declared.step.Step.TheOpen as step
 use Rattle.cgl_derive.specs.declared.step.Split.{Split, roll-Split}
 use Rattle.cgl_derive.specs.declared.step.Derivation.{Derivation, roll-Derivation, out-roll-Derivation}
-use Rattle.cgl_prooftext.specs.ProofText.{Text, fields_text, line, terms_fields, ineq_fields, refs_fields, lin_text, round_text, split_line, split_around, step_text, split_text, derivation_text, cut_text, proof_text, step_layer, derivation_layer, split_layer}
+use Rattle.cgl_prooftext.specs.ProofText.{Text, fields_text, line, terms_fields, ineq_fields, refs_fields, lin_text, round_text, knap_text, split_line, split_around, step_text, split_text, derivation_text, cut_text, proof_text, step_layer, derivation_layer, split_layer}
 use Rattle.cgl_derive.specs.declared.step.Step.TheFolds.{fold-roll-Split}
 use Rattle.cgl_derive.specs.Derives.{Layer}
-use Rattle.cgl_prooftext.specs.KnownProof.{KnownProof, KnownRound, KnownReferences, known_cut, known_lin_left, known_lin_right, known_split, known_derivation, one_step}
+use Rattle.cgl_prooftext.specs.KnownProof.{KnownProof, KnownRound, KnownKnap, KnownReferences, known_cut, known_lin_left, known_lin_right, known_split, known_derivation, one_step}
 use Rattle.cgl_prooftext.proofs.ProofTextLaws.{step_text_is, derivation_text_is, layer_text}
 
 roll_derivation : (d : step.Derivation-F Step Derivation Split) → derivation_text (roll-Derivation d) ≡ flat_map step_text d.steps
@@ -54,6 +54,10 @@ known_text = ap around derivation_known
 pub known_round : KnownRound
 unfolding fields_text line terms_fields ineq_fields round_text digits
 known_round = refl
+
+pub known_knap : KnownKnap
+unfolding fields_text line terms_fields ineq_fields knap_text digits
+known_knap = refl
 
 pub known_references : KnownReferences
 unfolding digits

@@ -7,15 +7,16 @@ use Rattle.cgl_text.specs.Growth.{Grown, Grows}
 use Rattle.cgl_text.specs.GrowthLaws.{flat_map_append, flat_map_more, grows_nothing, grows_then, grows_as}
 use Rattle.cgl_derive.specs.declared.step.Lin.{Lin}
 use Rattle.cgl_derive.specs.declared.step.Round.{Round}
+use Rattle.cgl_derive.specs.declared.step.Knap.{Knap}
 use Rattle.cgl_derive.specs.declared.step.Step.{Step, out-Step, out-roll-Step}
 use Rattle.cgl_derive.specs.declared.step.Step.TheVariants as variant
-use Rattle.cgl_derive.specs.declared.step.Step.TheVariants.{rolls-Lin, rolls-Round, rolls-Split}
+use Rattle.cgl_derive.specs.declared.step.Step.TheVariants.{rolls-Lin, rolls-Round, rolls-Split, rolls-Knap}
 use Rattle.cgl_derive.specs.declared.step.Step.TheOpen as step
 use Rattle.cgl_derive.specs.declared.step.Step.TheFolds.{fold_out-Step, fold_out-Derivation, fold_out-Split, map-Step}
 use Rattle.cgl_derive.specs.declared.step.Split.{Split, out-Split}
 use Rattle.cgl_derive.specs.declared.step.Derivation.{Derivation, out-Derivation}
 use Rattle.cgl_derive.specs.Derives.{Layer}
-use Rattle.cgl_prooftext.specs.ProofText.{Text, fields_text, line, lin_text, round_text, split_line, split_around, step_layer, derivation_layer, split_layer, step_text, split_text, derivation_text, ineq_fields, cut_text, proof_text}
+use Rattle.cgl_prooftext.specs.ProofText.{Text, fields_text, line, lin_text, round_text, knap_text, split_line, split_around, step_layer, derivation_layer, split_layer, step_text, split_text, derivation_text, ineq_fields, cut_text, proof_text}
 
 -- ---- fields
 
@@ -41,11 +42,13 @@ abbrev pub layer_text : Layer → Text
 layer_text (step.Lin lin) = lin_text lin
 layer_text (step.Round round) = round_text round
 layer_text (step.Split s) = split_text s
+layer_text (step.Knap knap) = knap_text knap
 
 layer_is : (l : Layer) → step_layer (map-Step Step Derivation Split Text Text Text step_text derivation_text split_text l) ≡ layer_text l
 layer_is (step.Lin lin) = refl
 layer_is (step.Round round) = refl
 layer_is (step.Split s) = refl
+layer_is (step.Knap knap) = refl
 
 pub step_text_is : (s : Step) → step_text s ≡ layer_text (out-Step s)
 unfolding step_text split_text derivation_text
@@ -69,6 +72,9 @@ step_round s round is = step_text_is s ∙ ap layer_text (ap out-Step is ∙ ap 
 
 pub step_split : (s : Step) (split : Split) → s ≡ variant.Split split → step_text s ≡ split_text split
 step_split s split is = step_text_is s ∙ ap layer_text (ap out-Step is ∙ ap out-Step (sym (rolls-Split split)) ∙ out-roll-Step _)
+
+pub step_knap : (s : Step) (knap : Knap) → s ≡ variant.Knap knap → step_text s ≡ knap_text knap
+step_knap s knap is = step_text_is s ∙ ap layer_text (ap out-Step is ∙ ap out-Step (sym (rolls-Knap knap)) ∙ out-roll-Step _)
 
 -- ---- what a text grows by
 

@@ -9,7 +9,7 @@ use Rattle.cgl_derive.specs.declared.step.Step.{Step, roll-Step}
 use Rattle.cgl_derive.specs.declared.step.Step.TheOpen as step
 use Rattle.cgl_derive.specs.declared.step.Split.{Split, roll-Split}
 use Rattle.cgl_derive.specs.declared.step.Derivation.{Derivation, roll-Derivation}
-use Rattle.cgl_prooftext.specs.ProofText.{proof_text, ref_text, round_text}
+use Rattle.cgl_prooftext.specs.ProofText.{knap_text, proof_text, ref_text, round_text}
 
 -- -x >= -1
 abbrev pub known_cut : Ineq
@@ -39,6 +39,10 @@ KnownProof =
 abbrev pub KnownRound : Type 0
 KnownRound =
     round_text (record { from = by.Side (Row 1 Upper); g = pos 3; claim = record { terms = (0, negsuc 0) ∷ (1, negsuc 0) ∷ (2, negsuc 0) ∷ []; rhs = negsuc 0 } }) ≡ codes "round 3 r1U 3 0 -1 1 -1 2 -1 >= -1\n"
+
+-- from 3a + 4b - 5c <= 3 over binary columns, -b + c >= 0
+abbrev pub KnownKnap : Type 0
+KnownKnap = knap_text (record { from = by.Side (Row 0 Upper); claim = record { terms = (1, negsuc 0) ∷ (2, pos 1) ∷ []; rhs = pos 0 } }) ≡ codes "knap r0U 2 1 -1 2 1 >= 0\n"
 
 abbrev pub KnownReferences : Type 0
 KnownReferences =

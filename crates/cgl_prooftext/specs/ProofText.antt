@@ -11,6 +11,7 @@ use Rattle.cgl_derive.specs.declared.step.Ref.{Ref}
 use Rattle.cgl_derive.specs.declared.step.Ref.TheVariants as by
 use Rattle.cgl_derive.specs.declared.step.Lin.{Lin}
 use Rattle.cgl_derive.specs.declared.step.Round.{Round}
+use Rattle.cgl_derive.specs.declared.step.Knap.{Knap}
 use Rattle.cgl_derive.specs.declared.step.Step.{Step}
 use Rattle.cgl_derive.specs.declared.step.Step.TheOpen as step
 use Rattle.cgl_derive.specs.declared.step.Step.TheFolds.{fold-Step, fold-Derivation, fold-Split}
@@ -73,6 +74,9 @@ lin_text lin = line (codes "lin") (signed_decimal lin.q ∷ refs_fields lin.refs
 unfoldable pub round_text : Round → Text
 round_text round = line (codes "round") (signed_decimal round.g ∷ ref_text round.from ∷ ineq_fields round.claim)
 
+unfoldable pub knap_text : Knap → Text
+knap_text knap = line (codes "knap") (ref_text knap.from ∷ ineq_fields knap.claim)
+
 unfoldable pub split_line : List Term → ℤ → Ineq → Text
 split_line p p0 claim = line (codes "split") (terms_fields p ++ signed_decimal p0 ∷ ineq_fields claim)
 
@@ -86,6 +90,7 @@ abbrev pub step_layer : step.Step-F Text Text Text → Text
 step_layer (step.Lin lin) = lin_text lin
 step_layer (step.Round round) = round_text round
 step_layer (step.Split text) = text
+step_layer (step.Knap knap) = knap_text knap
 
 abbrev pub derivation_layer : step.Derivation-F Text Text Text → Text
 derivation_layer d = flat_map (λ text. text) d.steps

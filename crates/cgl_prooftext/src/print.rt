@@ -1,10 +1,10 @@
 ghost use Rattle.std.specs.Prelude.{◌≡◌, flat_map, IfOk};
 ghost use Rattle.cgl_text.specs.Growth.{Grows};
-ghost use Rattle.cgl_prooftext.specs.ProofText.{cut_text, lin_text, proof_text, round_text, split_line, split_text, step_text};
+ghost use Rattle.cgl_prooftext.specs.ProofText.{cut_text, knap_text, lin_text, proof_text, round_text, split_line, split_text, step_text};
 
 use crate::field::{append_count, append_ineq, append_number, append_terms};
 use crate::reference::{append_ref, append_refs};
-use cgl_derive::{Derivation, Lin, Round, Split, Step};
+use cgl_derive::{Derivation, Knap, Lin, Round, Split, Step};
 use cgl_model::Ineq;
 use cgl_num::Memory;
 use cgl_text::Builder;
@@ -27,6 +27,15 @@ fn append_round(text: &mut Builder, round: &Round)
     append_number(text, round.g);
     append_ref(text, round.from);
     append_ineq(text, &round.claim);
+    text.append(b"\n");
+}
+
+fn append_knap(text: &mut Builder, knap: &Knap)
+    ensures { Grows (knap_text knap.now) text.old text.new }
+{
+    text.append(b"knap");
+    append_ref(text, knap.from);
+    append_ineq(text, &knap.claim);
     text.append(b"\n");
 }
 
@@ -60,6 +69,7 @@ fn append_step(text: &mut Builder, step: &Step)
         Step::Lin(lin) => append_lin(text, lin),
         Step::Round(round) => append_round(text, round),
         Step::Split(split) => append_split(text, split),
+        Step::Knap(knap) => append_knap(text, knap),
     }
 }
 

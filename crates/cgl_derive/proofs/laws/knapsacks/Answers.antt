@@ -1,4 +1,5 @@
 use Rattle.cgl_derive.proofs.KnapLists.{knap_lists}
+use Rattle.cgl_derive.proofs.KnapLiterals.{knap_literals}
 use Rattle.cgl_derive.proofs.KnapSound.{knap_sound}
 use Rattle.cgl_derive.proofs.laws.knapsacks.Goals as goal
 
@@ -7,3 +8,6 @@ returns-clause-sound c = knap_sound
 
 pub returns-clause-lists : goal.returns-clause-lists
 returns-clause-lists c = knap_lists
+
+pub returns-clause-literals : goal.returns-clause-literals
+returns-clause-literals c = knap_literals

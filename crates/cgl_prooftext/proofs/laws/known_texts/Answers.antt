@@ -1,4 +1,4 @@
-use Rattle.cgl_prooftext.proofs.KnownText.{known_text, known_round, known_references}
+use Rattle.cgl_prooftext.proofs.KnownText.{known_text, known_round, known_knap, known_references}
 use Rattle.cgl_prooftext.proofs.laws.known_texts.Goals as goal
 
 pub returns-clause-proof : goal.returns-clause-proof
@@ -6,6 +6,9 @@ returns-clause-proof c = known_text
 
 pub returns-clause-round : goal.returns-clause-round
 returns-clause-round c = known_round
+
+pub returns-clause-knap : goal.returns-clause-knap
+returns-clause-knap c = known_knap
 
 pub returns-clause-references : goal.returns-clause-references
 returns-clause-references c = known_references

@@ -5,7 +5,7 @@ use Rattle.std.proofs.lemmas.Int.{to_z-of_z}
 use Rattle.std.proofs.lemmas.List.{take_all}
 use Rattle.cgl_prooftext.specs.ProofText.{step_text}
 use Rattle.cgl_text.specs.GrowthLaws.{grows_as, more_grows, no_items}
-use Rattle.cgl_prooftext.proofs.ProofTextLaws.{step_lin, step_round, step_split, split_grows}
+use Rattle.cgl_prooftext.proofs.ProofTextLaws.{step_lin, step_round, step_split, step_knap, split_grows}
 use Rattle.cgl_prooftext.proofs.print.+steps.Goals as goal
 
 pub append_split-returns : goal.append_split-returns
@@ -25,6 +25,9 @@ append_step-returns-in-Round t c = grows_as _ _ _ _ (sym (step_round c.args.step
 
 pub append_step-returns-in-Split : goal.append_step-returns-in-Split
 append_step-returns-in-Split t c = grows_as _ _ _ _ (sym (step_split c.args.step.now c.in-Split.split c.in-Split.is)) c.append_split.ensures
+
+pub append_step-returns-in-Knap : goal.append_step-returns-in-Knap
+append_step-returns-in-Knap t c = grows_as _ _ _ _ (sym (step_knap c.args.step.now c.in-Knap.knap c.in-Knap.is)) c.append_knap.ensures
 
 pub append_steps-loop-step-init : goal.append_steps-loop-step-init
 append_steps-loop-step-init t c = no_items step_text c.args.text.now
