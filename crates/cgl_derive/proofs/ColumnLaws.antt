@@ -1,5 +1,7 @@
--- Claims have columns of the model.
-use Rattle.std.proofs.Common.{ℕ, List, [], ◌∷◌, ◌++◌, Option, Some, None, subst}
+-- Claims have columns of the model; and lists of columns, one more at a time.
+use Rattle.std.proofs.Common.{ℕ, ◌+◌, ◌<◌, List, [], ◌∷◌, ◌++◌, length, take, get_or, Option, Some, None, sym, subst}
+use Rattle.std.specs.List.{AllByRecursion}
+use Rattle.std.proofs.lemmas.List.{take_more}
 use Rattle.cgl_model.specs.declared.linear.Ineq.{Ineq}
 use Rattle.cgl_model.specs.declared.mip.Model.{Model}
 use Rattle.cgl_model.specs.IntegerForm.{forms_of}
@@ -13,6 +15,7 @@ use Rattle.cgl_derive.specs.Derives.{AreColumns, AreRight, Derives, IsRightIn, I
 use Rattle.cgl_derive.specs.Layers.{ProvesInside}
 use Rattle.cgl_derive.specs.Meaning.{meaning}
 use Rattle.cgl_derive.proofs.LayerLaws.{from_level}
+use Rattle.cgl_derive.proofs.Sound.{all_push}
 
 lin_columns : (m : Model) (parts : Option (List Part)) (lin : Lin) → IsRightLin m parts lin → AreColumns m lin.claim.terms
 lin_columns m None lin right = absurd right
@@ -44,3 +47,6 @@ pub claim_columns : (m : Model) (shared : List Ineq) (d : Derivation) (goal : In
 claim_columns m shared d goal derives last =
     let steps = (out-Derivation d).steps in
     last_columns m shared (ProvesInside m shared 64) [] [] steps goal (from_level m shared 64 [] [] steps goal derives).0 last
+
+pub all_more : {A : Type 0} (P : A → Type 0) (xs : List A) (i : ℕ) (d : A) → i < length xs → AllByRecursion P (take i xs) → P (get_or xs i d) → AllByRecursion P (take (i + 1) xs)
+all_more P xs i d h all here = subst (AllByRecursion P) (sym (take_more xs i d h)) (all_push P (take i xs) (get_or xs i d) all here)

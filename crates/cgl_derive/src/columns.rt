@@ -48,7 +48,12 @@ pub fn is_binary(model: &Model, column: u32) -> bool
 pub fn are_binary(model: &Model, terms: &[(u32, i128)]) -> bool
     ensures { IsTrue result ↔ AreBinary model.now terms.now }
 {
-    terms.iter().all(|term| is_binary(model, term.0))
+    for term in terms {
+        if !is_binary(model, term.0) {
+            return false;
+        }
+    }
+    true
 }
 
 /// Whether each column of the terms is one of the model.
