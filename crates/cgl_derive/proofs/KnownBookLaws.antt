@@ -1,11 +1,10 @@
 -- What is right of known books.
-use Rattle.std.proofs.Common.{◌≡◌, ℕ, zero, suc, ◌+◌, ◌*◌, ◌<◌, ◌==◌, ℤ, pos, negsuc, ◌^◌, Bool, true, false, List, [], ◌∷◌, take, Option, Some, None, IfSome, refl, sym, subst, inl, arith}
+use Rattle.std.proofs.Common.{◌≡◌, ℕ, zero, suc, ◌+◌, ◌*◌, ◌<◌, ◌==◌, ℤ, pos, negsuc, ◌^◌, Bool, true, false, List, [], ◌∷◌, take, Option, Some, None, IfSome, refl, subst, inl, arith}
 use Rattle.std.specs.Prelude.{◌+ℤ◌, ◌*ℤ◌, unsigned_abs, slice_get, if◌then◌else◌}
 use Rattle.std.proofs.lemmas.Int.{ints}
 use Rattle.cgl_num.specs.Gcd.{gcd, gcd_of}
 use Rattle.cgl_num.specs.Fraction.{lowest}
 use Rattle.cgl_model.specs.declared.linear.Ineq.{Ineq}
-use Rattle.cgl_model.specs.declared.mip.Model.{Model}
 use Rattle.cgl_model.specs.IntegerForm.{forms_of, row_shape}
 use Rattle.cgl_derive.specs.declared.step.Ref.TheVariants as by
 use Rattle.cgl_derive.specs.Books.{BookIsRight, Entry, inequalities}

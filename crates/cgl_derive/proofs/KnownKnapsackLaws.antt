@@ -1,8 +1,7 @@
 -- What is right of known knapsack steps.
-use Rattle.std.proofs.Common.{◌≡◌, ℕ, zero, suc, ◌+◌, ℤ, pos, negsuc, ◌^◌, ◌≤◌, ◌<◌, Bool, true, false, not, ◌&&◌, ◌||◌, List, [], ◌∷◌, length, map, Option, Some, None, IfSome, refl, sym, ap, subst, inl, inr, arith}
-use Rattle.std.specs.Prelude.{◌≤ℤ◌, ◌*ℤ◌, ◌-ℤ◌, int_le, slice_get}
+use Rattle.std.proofs.Common.{◌≡◌, ℕ, zero, suc, ℤ, pos, negsuc, ◌^◌, Bool, true, false, not, ◌&&◌, ◌||◌, List, [], ◌∷◌, length, map, Option, Some, None, IfSome, refl, sym, subst, inl, inr, arith}
+use Rattle.std.specs.Prelude.{◌≤ℤ◌, ◌*ℤ◌, int_le}
 use Rattle.std.proofs.lemmas.Int.{ints}
-use Rattle.std.proofs.lemmas.Bool.{false≢true}
 use Rattle.cgl_num.specs.Gcd.{gcd, gcd_of}
 use Rattle.cgl_num.specs.Fraction.{lowest}
 use Rattle.cgl_model.specs.declared.linear.Ineq.{Ineq}

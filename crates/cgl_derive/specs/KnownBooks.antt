@@ -1,5 +1,5 @@
 -- A small model, and books of derivations over it.
-use Rattle.std.specs.Prelude.{ℤ, pos, negsuc, List, [], ◌∷◌, codes, false}
+use Rattle.std.specs.Prelude.{pos, negsuc, List, [], ◌∷◌, codes, false}
 use Rattle.cgl_model.specs.declared.linear.Ineq.{Ineq}
 use Rattle.cgl_model.specs.declared.mip.Column.{Column}
 use Rattle.cgl_model.specs.declared.mip.Model.{Model}

@@ -1,5 +1,5 @@
 -- Small models of binary columns, and knapsack steps over them.
-use Rattle.std.specs.Prelude.{ℤ, pos, negsuc, ◌^◌, true, List, [], ◌∷◌, Some}
+use Rattle.std.specs.Prelude.{ℤ, pos, negsuc, ◌^◌, true, [], ◌∷◌, Some}
 use Rattle.cgl_model.specs.declared.linear.Ineq.{Ineq}
 use Rattle.cgl_model.specs.declared.mip.Column.{Column}
 use Rattle.cgl_model.specs.declared.mip.Model.{Model}

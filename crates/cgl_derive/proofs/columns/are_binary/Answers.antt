@@ -1,4 +1,4 @@
-use Rattle.std.proofs.Common.{get_or, pos, refl}
+use Rattle.std.proofs.Common.{pos, refl}
 use Rattle.cgl_derive.specs.Binary.{IsBinaryAt}
 use Rattle.cgl_derive.proofs.ColumnLaws.{all_more}
 use Rattle.cgl_derive.proofs.columns.are_binary.Goals as goal

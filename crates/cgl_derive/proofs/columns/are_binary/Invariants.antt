@@ -1,5 +1,4 @@
 use Rattle.std.proofs.Common.{take}
-use Rattle.std.specs.List.{AllByRecursion}
 use Rattle.cgl_derive.specs.Binary.{AreBinary}
 use Rattle.cgl_derive.proofs.columns.are_binary.Given as goal
 
