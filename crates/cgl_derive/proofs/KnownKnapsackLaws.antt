@@ -11,38 +11,13 @@ use Rattle.cgl_model.specs.declared.places.End.TheVariants.{Lower, Upper}
 use Rattle.cgl_model.specs.Inequality.{sum_at}
 use Rattle.cgl_model.specs.IntegerForm.{forms_of, row_shape}
 use Rattle.cgl_derive.specs.declared.step.Ref.TheVariants as by
-use Rattle.cgl_derive.specs.Binary.{HoldsAtBits, IsBinary, IsBinaryAt, bit}
+use Rattle.cgl_derive.specs.Binary.{IsBinary, IsBinaryAt, holds_at_bits, holds_of_all, meets_at}
 use Rattle.cgl_derive.specs.Derives.{Derives, KnapIsRight}
 use Rattle.cgl_derive.specs.Knapsack.{IsSameSign}
 use Rattle.cgl_derive.specs.KnownDerivations.{at_least, at_most_one, column_of, end_of_row, ineq, one_column, whole}
 use Rattle.cgl_derive.specs.KnownKnapsacks.{at_most, binary, both_signs, by_knap, complemented, end_of_first, enough, four_weights, great_multiple, knap, lifted_cover, lifted_too_far, one_of_two, turned}
+use Rattle.cgl_derive.proofs.BinaryLaws.{bits_decided}
 use Rattle.cgl_derive.proofs.KnownLaws.{derives, refuted}
-use Rattle.cgl_derive.proofs.TestLaws.{and_true}
-
--- ---- all lists of zeros and ones
-
-all_bits : ℕ → (List Bool → Bool) → Bool
-all_bits zero p = p []
-all_bits (suc n) p = all_bits n (λ z. p (true ∷ z)) && all_bits n (λ z. p (false ∷ z))
-
-each_bits : (n : ℕ) (p : List Bool → Bool) → all_bits n p ≡ true → (z : List Bool) → length z ≡ n → p z ≡ true
-unfolding all_bits
-each_bits zero p all [] e = all
-each_bits zero p all (b ∷ z) e = absurd (omega (arith, e))
-each_bits (suc n) p all [] e = absurd (omega (arith, e))
-each_bits (suc n) p all (true ∷ z) e = each_bits n (λ y. p (true ∷ y)) (and_true (all_bits n (λ y. p (true ∷ y))) (all_bits n (λ y. p (false ∷ y))) all).0 z (omega (arith, e))
-each_bits (suc n) p all (false ∷ z) e = each_bits n (λ y. p (false ∷ y)) (and_true (all_bits n (λ y. p (true ∷ y))) (all_bits n (λ y. p (false ∷ y))) all).1 z (omega (arith, e))
-
-meets : Ineq → List Bool → Bool
-meets c z = int_le (c.rhs *ℤ pos 1) (sum_at (map bit z) c.terms)
-
-follows : (u v s t : ℤ) → (not (int_le u v) || int_le s t) ≡ true → u ≤ℤ v → s ≤ℤ t
-follows u v s t e h = grind (arith, ints, e, h)
-
-bits_hold : (m : Model) (from claim : Ineq) → all_bits (length m.cols) (λ z. not (meets from z) || meets claim z) ≡ true → HoldsAtBits m from claim
-unfolding meets
-bits_hold m from claim all z size met =
-    follows (from.rhs *ℤ pos 1) (sum_at (map bit z) from.terms) (claim.rhs *ℤ pos 1) (sum_at (map bit z) claim.terms) (each_bits (length m.cols) _ all z size) met
 
 is_binary : (coefficient : ℤ) → IsBinary (binary coefficient)
 is_binary coefficient = record { integer = refl; lower = refl; upper = refl }
@@ -62,7 +37,7 @@ abbrev light : Ineq
 light = ineq ((0, negsuc 1) ∷ (1, negsuc 1) ∷ (2, negsuc 1) ∷ (3, negsuc 3) ∷ []) (negsuc 4)
 
 cover_right : KnapIsRight four_weights light lifted_cover
-unfolding all_bits meets
+unfolding holds_at_bits holds_of_all meets_at
 cover_right = record {
   columns = (omega arith, (omega arith, (omega arith, (omega arith, tt))));
   binary = (
@@ -77,7 +52,7 @@ cover_right = record {
     (inr (omega (arith, ints), omega (arith, ints)), (inr (omega (arith, ints), omega (arith, ints)), (inr (omega (arith, ints), omega (arith, ints)), tt))),
   );
   narrow_claim = omega arith;
-  holds = bits_hold four_weights light lifted_cover refl;
+  holds = (bits_decided four_weights light lifted_cover).0 refl;
 }
 
 pub known_cover : Derives four_weights [] (by_knap (end_of_row Upper) lifted_cover) lifted_cover
@@ -101,7 +76,7 @@ abbrev both : Ineq
 both = ineq ((0, negsuc 2) ∷ (1, negsuc 3) ∷ (2, pos 5) ∷ []) (negsuc 2)
 
 complemented_right : KnapIsRight both_signs both complemented
-unfolding all_bits meets
+unfolding holds_at_bits holds_of_all meets_at
 complemented_right = record {
   columns = (omega arith, (omega arith, tt));
   binary = ((binary (pos 3), refl, is_binary (pos 3)), ((binary (pos 4), refl, is_binary (pos 4)), ((binary (negsuc 4), refl, is_binary (negsuc 4)), tt)));
@@ -110,7 +85,7 @@ complemented_right = record {
   narrow_from = omega arith;
   signs = (inr (omega (arith, ints), omega (arith, ints)), (inl (omega (arith, ints), omega (arith, ints)), tt));
   narrow_claim = omega arith;
-  holds = bits_hold both_signs both complemented refl;
+  holds = (bits_decided both_signs both complemented).0 refl;
 }
 
 pub known_complemented : Derives both_signs [] (by_knap (end_of_row Upper) complemented) complemented
@@ -127,7 +102,7 @@ abbrev heavy : Ineq
 heavy = ineq ((0, pos 3) ∷ (1, pos 4) ∷ (2, pos 5) ∷ []) (pos 4)
 
 one_right : KnapIsRight enough heavy one_of_two
-unfolding all_bits meets
+unfolding holds_at_bits holds_of_all meets_at
 one_right = record {
   columns = (omega arith, (omega arith, tt));
   binary = ((binary (pos 3), refl, is_binary (pos 3)), ((binary (pos 4), refl, is_binary (pos 4)), ((binary (pos 5), refl, is_binary (pos 5)), tt)));
@@ -136,7 +111,7 @@ one_right = record {
   narrow_from = omega arith;
   signs = (inl (omega (arith, ints), omega (arith, ints)), (inl (omega (arith, ints), omega (arith, ints)), tt));
   narrow_claim = omega arith;
-  holds = bits_hold enough heavy one_of_two refl;
+  holds = (bits_decided enough heavy one_of_two).0 refl;
 }
 
 pub known_enough : Derives enough [] (by_knap (end_of_row Lower) one_of_two) one_of_two
@@ -161,7 +136,7 @@ not_binary goal = refuted one_column [] (knap (end_of_row Upper) at_most_one) []
 -- ---- limits
 
 full_right : KnapIsRight four_weights (at_most (negsuc 49999997)) at_most_one
-unfolding all_bits meets
+unfolding holds_at_bits holds_of_all meets_at
 full_right = record {
   columns = (omega arith, tt);
   binary = ((binary (pos 2), refl, is_binary (pos 2)), tt);
@@ -170,7 +145,7 @@ full_right = record {
   narrow_from = omega arith;
   signs = (inr (omega (arith, ints), omega (arith, ints)), tt);
   narrow_claim = omega arith;
-  holds = bits_hold four_weights (at_most (negsuc 49999997)) at_most_one refl;
+  holds = (bits_decided four_weights (at_most (negsuc 49999997)) at_most_one).0 refl;
 }
 
 pub known_full : Derives four_weights (at_most (negsuc 49999997) ∷ []) (by_knap (by.Shared 0) at_most_one) at_most_one

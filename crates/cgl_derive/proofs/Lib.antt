@@ -8,6 +8,7 @@ pub mod NarrowLaws
 pub mod RoundingLaws
 pub mod DivisionLaws
 pub mod RoundSound
+pub mod BinaryLaws
 pub mod KnapSound
 pub mod KnapLists
 pub mod KnapLiterals

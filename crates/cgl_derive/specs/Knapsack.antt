@@ -1,5 +1,5 @@
--- An inequality `a x >= h` over binary columns as a knapsack: the literals, 1 - x where a > 0 and x where a < 0, weigh as
--- much as the magnitudes of a, and weigh together at most the capacity.
+-- An inequality `a x >= h` over binary columns as a knapsack. Its literals are 1 - x where a > 0, and x where a < 0; each
+-- weighs the magnitude of its a, and those that are 1 weigh together at most the capacity.
 use Rattle.std.specs.Prelude.{◌⊎◌, ℕ, ◌+◌, ℤ, pos, negsuc, ◌+ℤ◌, ◌-ℤ◌, ◌<ℤ◌, unsigned_abs, List, [], ◌∷◌, map}
 use Rattle.cgl_model.specs.declared.linear.Ineq.{Ineq}
 use Rattle.cgl_model.specs.Inequality.{Term}

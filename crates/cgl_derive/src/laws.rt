@@ -16,7 +16,7 @@ ghost use Rattle.cgl_derive.specs.declared.book.Book.{Book};
 ghost use Rattle.cgl_derive.specs.declared.step.Derivation.{Derivation, out-Derivation};
 ghost use Rattle.cgl_derive.specs.declared.step.Split.{Split, out-Split};
 ghost use Rattle.cgl_derive.specs.declared.step.Step.{Step};
-ghost use Rattle.cgl_derive.specs.Binary.{HoldsAtBits};
+ghost use Rattle.cgl_derive.specs.Binary.{HoldsAtBits, holds_at_bits};
 ghost use Rattle.cgl_derive.specs.Books.{BookIsRight, inequalities};
 ghost use Rattle.cgl_derive.specs.Derives.{AreColumns, AreIntegers, Derives, DerivesWithin, EndsIn, KnapIsRight, LastIs, Layer, LinIsRight, Part, RoundIsRight, SplitIsRight, above, below, coefficient};
 ghost use Rattle.cgl_derive.specs.Knapsack.{IsSameSign};
@@ -84,10 +84,11 @@ pub fn rounding()
 {}
 
 /// A feasible point that meets an inequality meets what a right knapsack step claims from it. The last condition of such
-/// a step is one on lists of zeros and ones over the columns of that inequality, and so one on sets of its literals, each
-/// a column or its complement: those within the capacity. So it is told by the greatest of a knapsack.
+/// a step is a test. It is one on lists of zeros and ones over the columns of that inequality, and so one on sets of its
+/// literals, each a column or its complement: those within the capacity. So it is told by the greatest of a knapsack.
 pub fn knapsacks()
     ensures sound { (m : Model) (from claim : Ineq) (x : Point) → KnapIsRight m from claim → IsFeasible m x → Meets x from → Meets x claim }
+    ensures test { (m : Model) (from claim : Ineq) → IsTrue (holds_at_bits m from claim) ↔ HoldsAtBits m from claim }
     ensures lists { (m : Model) (from claim : Ineq) → IsRising from.terms → AreColumns m from.terms
         → AllByRecursion (λ t. IsSameSign (coefficient t.0 from.terms) t.1) claim.terms → HoldsAtBits m from claim ↔ HoldsAtLists from claim }
     ensures literals { (from claim : Ineq) → IsRising from.terms

@@ -1,3 +1,4 @@
+use Rattle.cgl_derive.proofs.BinaryLaws.{bits_decided}
 use Rattle.cgl_derive.proofs.KnapLists.{knap_lists}
 use Rattle.cgl_derive.proofs.KnapLiterals.{knap_literals}
 use Rattle.cgl_derive.proofs.KnapSound.{knap_sound}
@@ -11,3 +12,6 @@ returns-clause-lists c = knap_lists
 
 pub returns-clause-literals : goal.returns-clause-literals
 returns-clause-literals c = knap_literals
+
+pub returns-clause-test : goal.returns-clause-test
+returns-clause-test c = bits_decided
