@@ -1,5 +1,5 @@
 -- What is right of known derivations.
-use Rattle.std.proofs.Common.{◌≡◌, ℕ, zero, suc, ℤ, pos, negsuc, ◌+◌, ◌*◌, ◌<◌, ◌≤◌, ◌==◌, Bool, List, [], ◌∷◌, ◌++◌, length, Option, Some, true, false, refl, sym, ap, subst, inl, inr, arith, length-append}
+use Rattle.std.proofs.Common.{◌≡◌, ◌⊎◌, ℕ, zero, suc, ℤ, pos, negsuc, ◌+◌, ◌*◌, ◌<◌, ◌≤◌, ◌==◌, Bool, List, [], ◌∷◌, ◌++◌, length, Option, Some, true, false, refl, sym, ap, subst, inl, inr, arith, length-append}
 use Rattle.std.specs.Prelude.{◌+ℤ◌, ◌*ℤ◌, ◌^◌, unsigned_abs, slice_get, if◌then◌else◌}
 use Rattle.std.proofs.lemmas.Int.{ints}
 use Rattle.std.proofs.lemmas.Bool.{false≢true}
@@ -14,11 +14,11 @@ use Rattle.cgl_derive.specs.declared.step.Ref.TheVariants as by
 use Rattle.cgl_derive.specs.declared.step.Step.TheOpen as step
 use Rattle.cgl_derive.specs.declared.step.Split.{out-Split}
 use Rattle.cgl_derive.specs.declared.step.Derivation.{Derivation, out-Derivation}
-use Rattle.cgl_derive.specs.Derives.{Layer, onto_parts, IsRightLin, coefficient, below, above, IsRightIn, DerivesWithin, Derives, SplitIsRight, LinIsRight}
+use Rattle.cgl_derive.specs.Derives.{Layer, onto_parts, IsRightLin, coefficient, below, above, IsRightIn, DerivesWithin, Derives, IsAbsurd, SplitIsRight, LinIsRight}
 use Rattle.cgl_derive.proofs.RoundingLaws.{rounded_right}
 use Rattle.cgl_derive.specs.Layers.{rolled, derivation, ProvesInside, AreLayersRight, LayersEndIn}
 use Rattle.cgl_derive.proofs.LayerLaws.{derived, derived_within}
-use Rattle.cgl_derive.specs.KnownDerivations.{one_column, two_columns, infeasible, ineq, at_least, at_most_one, end_of_row, lin, round, cases, halved, by_three, too_great, summed, too_wide, other_column, left_case, by_cases, nested, over_continuous, contradiction, repeated_column}
+use Rattle.cgl_derive.specs.KnownDerivations.{one_column, two_columns, infeasible, ineq, at_least, at_most_one, end_of_row, lin, round, cases, halved, by_three, too_great, other_cases, other_end, summed, too_wide, other_column, left_case, by_cases, nested, over_continuous, contradiction, repeated_column}
 
 pub derives : (m : Model) (shared : List Ineq) (n : ℕ) (givens claims : List Ineq) (layers : List Layer) (goal : Ineq) → AreLayersRight m shared (ProvesInside m shared n) givens claims layers → LayersEndIn layers goal
     → DerivesWithin m shared n givens claims (rolled layers) goal
@@ -112,6 +112,16 @@ cases_right n d givens left e proved =
 
 pub known_cases : Derives one_column [] by_cases at_most_one
 known_cases = cases_right 63 0 [] (left_case 0) refl (left_right 63 0 [] refl)
+
+pub branch_end : (goal : Ineq) → Derives one_column [] other_end goal → ⊥
+unfolding ProvesInside
+branch_end goal d =
+    let split = ((derived one_column [] (step.Split other_cases ∷ []) goal).0 d).0.0 in
+    wrong ((derived_within one_column [] 63 (above_one ∷ []) [] (lin (pos 1) ((by.Given 0, pos 1) ∷ []) (at_least (pos 1) (pos 2)) ∷ []) at_most_one).0 split.right).1
+  where
+    wrong : (at_least (pos 1) (pos 2) ≡ at_most_one) ⊎ IsAbsurd (at_least (pos 1) (pos 2)) → ⊥
+    wrong (inl same) = let rhs : pos 2 ≡ negsuc 0 = ap (λ c. c.rhs) same in omega (arith, ints, rhs)
+    wrong (inr absurd_end) = let count : 1 ≡ 0 = ap length absurd_end.0 in omega (arith, count)
 
 longer : (givens : List Ineq) (c : Ineq) (d : ℕ) → length givens ≡ d → length (givens ++ c ∷ []) ≡ d + 1
 longer givens c d e = simp length-append (omega (arith, e))

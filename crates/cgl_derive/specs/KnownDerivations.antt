@@ -113,6 +113,19 @@ left_case d = derivation (lin (pos 2) ((by.Given d, pos 2) ∷ []) at_most_one �
 abbrev pub by_cases : Derivation
 by_cases = derivation (step.Split (cases 0 (left_case 0)) ∷ [])
 
+-- the same, but the right case ends in its own assumption, x >= 2
+abbrev pub other_cases : Split
+other_cases = roll-Split (record {
+  p = (0, pos 1) ∷ [];
+  p0 = pos 1;
+  left = left_case 0;
+  right = derivation (lin (pos 1) ((by.Given 0, pos 1) ∷ []) (at_least (pos 1) (pos 2)) ∷ []);
+  claim = at_most_one;
+})
+
+abbrev pub other_end : Derivation
+other_end = derivation (step.Split other_cases ∷ [])
+
 -- under d givens, cases with n more splits inside each other on the left
 unfoldable pub nested : ℕ → ℕ → Derivation
 nested zero d = derivation (step.Split (cases d (left_case d)) ∷ [])

@@ -8,12 +8,12 @@ ghost use Rattle.cgl_derive.specs.Books.{BookIsRight};
 ghost use Rattle.cgl_derive.specs.Derives.{Derives, LinIsRight};
 ghost use Rattle.cgl_derive.specs.Layers.{derivation};
 ghost use Rattle.cgl_derive.specs.KnownBooks.{beyond_book, circular_book, lacking_book, plain_book, shared_book, three_binaries};
-ghost use Rattle.cgl_derive.specs.KnownDerivations.{at_least, at_most_one, by_cases, by_three, contradiction, end_of_row, halved, infeasible, nested, one_column, other_column, over_continuous, repeated_column, summed, too_great, too_wide, two_columns};
+ghost use Rattle.cgl_derive.specs.KnownDerivations.{at_least, at_most_one, by_cases, by_three, contradiction, end_of_row, halved, infeasible, nested, one_column, other_column, other_end, over_continuous, repeated_column, summed, too_great, too_wide, two_columns};
 ghost use Rattle.cgl_derive.specs.KnownKnapsacks.{at_most, both_signs, by_knap, complemented, end_of_first, enough, four_weights, great_multiple, lifted_cover, lifted_too_far, one_of_two, turned};
 
 /// Over `2x <= 3` with x integer, `-x >= -1` follows by rounding and by cases; and what is not right proves nothing: no
-/// steps, a divisor of another number, another claim, a reference to nothing, a negative multiplier, a sum of
-/// magnitudes that reaches 2^127, and a column that the model does not have.
+/// steps, a divisor of another number, another claim, a case that ends in another claim, a reference to nothing, a
+/// negative multiplier, a sum of magnitudes that reaches 2^127, and a column that the model does not have.
 pub fn known_derivations()
     ensures rounded { Derives one_column [] halved at_most_one }
     ensures cases { Derives one_column [] by_cases at_most_one }
@@ -21,6 +21,7 @@ pub fn known_derivations()
     ensures empty { (goal : Ineq) → ¬ Derives one_column [] (derivation []) goal }
     ensures divisor { (goal : Ineq) → ¬ Derives one_column [] by_three goal }
     ensures claim { (goal : Ineq) → ¬ Derives one_column [] too_great goal }
+    ensures branch { (goal : Ineq) → ¬ Derives one_column [] other_end goal }
     ensures step { (goal : Ineq) → ¬ Derives one_column [] (summed ((Claim 0, pos 1) ∷ []) at_most_one) goal }
     ensures given { (goal : Ineq) → ¬ Derives one_column [] (summed ((Given 0, pos 1) ∷ []) at_most_one) goal }
     ensures none_shared { (goal : Ineq) → ¬ Derives one_column [] (summed ((Shared 0, pos 1) ∷ []) at_most_one) goal }

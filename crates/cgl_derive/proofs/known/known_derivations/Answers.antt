@@ -1,4 +1,4 @@
-use Rattle.cgl_derive.proofs.KnownLaws.{known_rounded, known_cases, known_shared, no_steps, other_divisor, other_claim, no_step, no_given, no_shared, negative_multiplier, great_multiplier, great_sum, column_beyond, shared_beyond}
+use Rattle.cgl_derive.proofs.KnownLaws.{known_rounded, known_cases, known_shared, no_steps, other_divisor, other_claim, branch_end, no_step, no_given, no_shared, negative_multiplier, great_multiplier, great_sum, column_beyond, shared_beyond}
 use Rattle.cgl_derive.proofs.known.known_derivations.Goals as goal
 
 pub returns-clause-rounded : goal.returns-clause-rounded
@@ -18,6 +18,9 @@ returns-clause-divisor c = other_divisor
 
 pub returns-clause-claim : goal.returns-clause-claim
 returns-clause-claim c = other_claim
+
+pub returns-clause-branch : goal.returns-clause-branch
+returns-clause-branch c = branch_end
 
 pub returns-clause-step : goal.returns-clause-step
 returns-clause-step c = no_step
