@@ -46,7 +46,7 @@ at_most_one_of_two = ineq ((0, negsuc 0) ∷ (1, negsuc 0) ∷ []) (negsuc 0)
 abbrev pub divided : Layer
 divided = round (pos 3) end_of_second at_most_one_of_three
 
--- the k-th shared inequality as it stands
+-- what a reference means, as it stands
 abbrev pub taken : Ref → Layer
 taken from = lin (pos 1) ((from, pos 1) ∷ []) at_most_one_of_three
 
