@@ -22,6 +22,7 @@ use cgl_decode::Section;
 use cgl_model::Model;
 use cgl_num::Memory;
 use cgl_outside::{FetchError, LineStep, Lines, ReadError, Shelf};
+use cgl_text::kept_fields;
 use std::alloc::Global;
 
 /// The most bytes that a line may have.
@@ -57,9 +58,10 @@ fn take_line(
         ⊎ ((kind : ℕ) × (e ≡ ReadError.Fault n kind)
         × IsBad (line_record n section line.now) state.old kind)) }
 {
-    let Ok(r) = record_of(alloc, n, section, line) else {
+    let Ok(fields) = kept_fields(alloc, line) else {
         return Err(ReadError::Memory);
     };
+    let r = record_of(n, section, line, fields.as_slice());
     let Ok(()) = resolve(state.rows(), &r, pairs) else {
         return Err(ReadError::Memory);
     };

@@ -5,26 +5,26 @@ use crate::sections::word_at;
 use cgl_decode::Section;
 use std::marker::Model;
 
-/// A line of a deck with its section and its fields. A line that is ignored has no fields.
+/// A line of a deck with its section and its fields, which are lent. A line that is ignored has no fields.
 #[derive(Drop)]
-pub(crate) struct Record<'a> {
+pub(crate) struct Record<'f, 'a> {
     pub(crate) line: u64,
     pub(crate) length: usize,
     pub(crate) section: Section,
     pub(crate) header: bool,
-    pub(crate) fields: Vec<&'a [u8]>,
+    pub(crate) fields: &'f [&'a [u8]],
 }
 
-impl<'a> Model for Record<'a> {
+impl<'f, 'a> Model for Record<'f, 'a> {
     ghost use Rattle.std.specs.Prelude.{map};
     ghost use Rattle.cgl_decode.specs.Records.{Record as Line};
 
     ghost Value = { Line };
 
-    ghost view = { λ it. record { line = it.line; bytes = it.length; section = it.section; header = it.header; fields = map (λ f. f.now) it.fields.items } };
+    ghost view = { λ it. record { line = it.line; bytes = it.length; section = it.section; header = it.header; fields = map (λ f. f.now) it.fields.now } };
 }
 
-impl<'a> Record<'a> {
+impl<'f, 'a> Record<'f, 'a> {
     /// The line's number from 1.
     pub(crate) fn line(&self) -> u64
         ensures { result ≡ self.now.line }
@@ -52,15 +52,15 @@ impl<'a> Record<'a> {
         self.header
     }
 
-    pub(crate) fn fields(&self) -> &[&'a [u8]]
+    pub(crate) fn fields(&self) -> &'f [&'a [u8]]
         ensures { map (λ f. f.now) result.now ≡ self.now.fields }
     {
-        self.fields.as_slice()
+        self.fields
     }
 }
 
 /// The field at place k from 0, and an empty one where there is none.
-pub(crate) fn field<'a>(r: &Record<'a>, k: usize) -> &'a [u8]
+pub(crate) fn field<'a>(r: &Record<'_, 'a>, k: usize) -> &'a [u8]
     ensures { result.now ≡ field k r.now }
 {
     word_at(r.fields(), k)

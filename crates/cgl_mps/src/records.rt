@@ -1,16 +1,14 @@
 //! Lines of a deck as records.
 
-ghost use Rattle.std.specs.Prelude.{◌≡◌, IfOk, if◌then◌else◌};
+ghost use Rattle.std.specs.Prelude.{◌≡◌, if◌then◌else◌};
 ghost use Rattle.cgl_text.specs.Text.{is_one_of};
 ghost use Rattle.cgl_text.specs.Seen.{words};
-ghost use Rattle.cgl_decode.specs.Records.{first_word, is_kept, record_of, section_after, section_named, unsupported};
+ghost use Rattle.cgl_decode.specs.Records.{first_word, is_header, is_kept, kept_fields, record_of, section_after, section_named, unsupported};
 
 use crate::record::Record;
 use crate::sections::word_at;
 use cgl_decode::Section;
-use cgl_num::Memory;
-use cgl_text::{begins_blank, kept_fields, same_bytes};
-use std::alloc::Global;
+use cgl_text::{begins_blank, same_bytes};
 
 fn is_unsupported(name: &[u8]) -> bool
     ensures { result ≡ is_one_of unsupported name.now }
@@ -73,27 +71,32 @@ fn section_after(section: Section, header: bool, fields: &[&[u8]]) -> Section
     section_named(word_at(fields, 0))
 }
 
-/// The record of line n, after a line in the section.
-pub(crate) fn record_of<'a>(
-    alloc: Global,
+/// Whether a line with these fields begins its section.
+pub(crate) fn is_header(line: &[u8], fields: &[&[u8]]) -> bool
+    requires { words fields.now ≡ kept_fields line.now }
+    ensures { result ≡ is_header line.now }
+{
+    !begins_blank(line) && !fields.is_empty()
+}
+
+/// The record of line n with its fields, after a line in the section.
+pub(crate) fn record_of<'f, 'a>(
     n: u64,
     section: Section,
-    line: &'a [u8],
-) -> Result<Record<'a>, Memory>
-    ensures { IfOk result (λ r. r ≡ record_of n (section_after section line.now) line.now) }
+    line: &[u8],
+    fields: &'f [&'a [u8]],
+) -> Record<'f, 'a>
+    requires { words fields.now ≡ kept_fields line.now }
+    ensures { result ≡ record_of n (section_after section line.now) line.now }
 {
-    let Ok(fields) = kept_fields(alloc, line) else {
-        return Err(Memory);
-    };
-    let header = !begins_blank(line) && !fields.is_empty();
-    let section = section_after(section, header, fields.as_slice());
-    Ok(Record {
+    let header = is_header(line, fields);
+    Record {
         line: n,
         length: line.len(),
-        section,
+        section: section_after(section, header, fields),
         header,
         fields,
-    })
+    }
 }
 
 /// Whether the record has fields.

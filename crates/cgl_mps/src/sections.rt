@@ -18,7 +18,7 @@ use cgl_text::same_bytes;
 // NAME
 
 /// The name that a NAME line gives the model.
-pub(crate) fn name_in<'a>(r: &Record<'a>) -> Option<&'a [u8]>
+pub(crate) fn name_in<'a>(r: &Record<'_, 'a>) -> Option<&'a [u8]>
     ensures { option_map word result ≡ name_in r.now }
 {
     if Section::Name.is(r.section()) {
@@ -48,7 +48,7 @@ pub(crate) fn says_maximise(text: &[u8]) -> bool
 }
 
 /// The word that stands in the place of the sense.
-pub(crate) fn sense_in<'a>(r: &Record<'a>) -> Option<&'a [u8]>
+pub(crate) fn sense_in<'a>(r: &Record<'_, 'a>) -> Option<&'a [u8]>
     ensures { option_map word result ≡ sense_in r.now }
 {
     if Section::Sense.is(r.section()) {
@@ -110,7 +110,7 @@ fn rest<'b, 'a>(fields: &'b [&'a [u8]]) -> &'b [&'a [u8]]
 }
 
 /// The fields of a column's line that are rows and values in turn.
-pub(crate) fn entry_fields<'b, 'a>(r: &'b Record<'a>) -> &'b [&'a [u8]]
+pub(crate) fn entry_fields<'f, 'a>(r: &Record<'f, 'a>) -> &'f [&'a [u8]]
     ensures pairs { pairs_of (words result.now) ≡ entry_pairs r.now }
     ensures within { length result.now ≤ length r.now.fields }
 {
@@ -140,7 +140,7 @@ pub(crate) fn names_row(fields: &[&[u8]], row: &[u8]) -> bool
 // RHS and RANGES
 
 /// The fields of a line of RHS or RANGES that are rows and values in turn.
-pub(crate) fn set_fields<'b, 'a>(r: &'b Record<'a>) -> &'b [&'a [u8]]
+pub(crate) fn set_fields<'f, 'a>(r: &Record<'f, 'a>) -> &'f [&'a [u8]]
     ensures pairs { pairs_of (words result.now) ≡ set_pairs r.now }
     ensures within { length result.now ≤ length r.now.fields }
 {
@@ -236,7 +236,7 @@ pub(crate) fn bound_in<'a>(fields: &[&'a [u8]]) -> Option<Bound<'a>>
 // sets
 
 /// The set that a line of the section names.
-pub(crate) fn set_in<'a>(section: Section, r: &Record<'a>) -> Option<&'a [u8]>
+pub(crate) fn set_in<'a>(section: Section, r: &Record<'_, 'a>) -> Option<&'a [u8]>
     ensures { option_map word result ≡ set_in section r.now }
 {
     if section.is(Section::Bounds) {

@@ -1,6 +1,5 @@
 pub mod TextLaws
 pub mod NameLaws
-mod OwnedLaws
 mod PlaceLaws
 pub mod FrontLaws
 pub mod RecordLaws

@@ -1,16 +1,14 @@
 -- The first line and the first field of a text, by the place of their end.
-use Rattle.std.proofs.Common.{◌≡◌, ◌≢◌, ◌<◌, ◌≤◌, eq-eqb, ℕ, zero, suc, ◌+◌, ◌-◌, List, [], ◌∷◌, ◌++◌, append-nil, append_assoc, length, get_or, take, drop, Bool, true, false, cond, eqb, ◌==◌, ◌||◌, refl, sym, ap, ◌∙◌, arith, add-one, length-drop}
+use Rattle.std.proofs.Common.{◌≡◌, ◌≢◌, ◌<◌, ◌≤◌, eq-eqb, ℕ, zero, suc, ◌+◌, ◌-◌, List, [], ◌∷◌, ◌++◌, append-nil, append_assoc, length, get_or, take, drop, Bool, true, false, cond, eqb, ◌||◌, refl, sym, ap, ◌∙◌, arith, add-one, length-drop}
 use Rattle.std.proofs.lemmas.Bool.Decides.{nat_tests}
-use Rattle.std.proofs.lemmas.List.{take_all, map-append}
+use Rattle.std.proofs.Math.Seq.{drop-drop}
+use Rattle.std.proofs.Math.ListN.{drop_of_length-le}
+use Rattle.std.proofs.lemmas.List.{drop_more, get_or-drop, map-append}
 use Rattle.std.specs.List.{onto_first}
 use denote.Ref.{Bor}
 use Rattle.cgl_num.specs.NumberText.{Word}
 use Rattle.cgl_text.specs.Seen.{word, words}
 use Rattle.cgl_text.specs.Text.{lines_of, fields_of, is_blank, begins_blank, kept_fields}
-
--- what a slice from n on has
-pub rest_is : (bytes : List ℕ) (n : ℕ) → take (length bytes - n) (drop n bytes) ≡ drop n bytes
-rest_is bytes n = take_all (length bytes - n) (drop n bytes) (omega (arith, length-drop n bytes))
 
 line_at : (bytes : List ℕ) (end : ℕ) → end < length bytes → eqb (get_or bytes end 0) 10 ≡ true → ((k : ℕ) → k < end → eqb (get_or bytes k 0) 10 ≡ false)
     → lines_of bytes ≡ take end bytes ∷ lines_of (drop (suc end) bytes)
@@ -71,27 +69,54 @@ last_test false false c first second = refl
 pub other_blank : (b : ℕ) → (b ≢ 32) × (b ≢ 9) → eqb b 13 ≡ is_blank b
 other_blank b apart = last_test (eqb b 32) (eqb b 9) (eqb b 13) (apart_test b 32 apart.0) (apart_test b 9 apart.1)
 
--- a blank at the start
-pub blank_first : (text : List ℕ) → true ≡ begins_blank text → fields_of (take (length text - 1) (drop 1 text)) ≡ fields_of text
-blank_first [] begins = refl
-blank_first (b ∷ text) begins =
-    ap fields_of (rest_is (b ∷ text) 1)
-    ∙ ap (λ c. cond c (fields_of text) (cond (begins_blank text) ((b ∷ []) ∷ fields_of text) (onto_first b (fields_of text)))) begins
+-- a blank at a place is in no field
+pub blank_at : (text : List ℕ) (i : ℕ) → i < length text → is_blank (get_or text i 0) ≡ true → fields_of (drop i text) ≡ fields_of (drop (i + 1) text)
+blank_at text i within blank =
+    let rest = drop (i + 1) text in
+    let b = get_or text i 0 in
+    ap fields_of (drop_more text i 0 within)
+    ∙ ap (λ c. cond c (fields_of rest) (cond (begins_blank rest) ((b ∷ []) ∷ fields_of rest) (onto_first b (fields_of rest)))) blank
 
 pub comment_is : (line : List ℕ) → 0 < length line → get_or line 0 0 ≡ 42 → kept_fields line ≡ []
 comment_is [] some at = absurd (omega arith)
 comment_is (b ∷ bytes) some at = ap (λ c. cond c [] (fields_of (b ∷ bytes))) (eq-eqb _ _ at)
 
+begins_at : (text : List ℕ) → 0 < length text → is_blank (get_or text 0 0) ≡ false → begins_blank text ≡ false
+begins_at [] some at = absurd (omega arith)
+begins_at (b ∷ text) some at = at
+
+-- a run of bytes that are not blank, up to a blank or the end
+run_is : (text : List ℕ) (start end : ℕ) → start < end → end ≤ length text
+    → ((k : ℕ) → start ≤ k → k < end → is_blank (get_or text k 0) ≡ false) → (end < length text → is_blank (get_or text end 0) ≡ true)
+    → fields_of (drop start text) ≡ take (end - start) (drop start text) ∷ fields_of (drop end text)
+run_is text start end lt le run ends =
+    let rest = drop start text in
+    let count = end - start in
+    let all : length rest ≡ length text - start = length-drop start text in
+    let at : (k : ℕ) → get_or rest k 0 ≡ get_or text (start + k) 0 = λ k. get_or-drop start text k 0 in
+    let to_end : start + count ≡ end = omega arith in
+    field_found rest count
+    (begins_at rest (omega arith) (ap is_blank (at 0) ∙ run (start + 0) (omega arith) (omega arith)))
+    (omega arith)
+    (λ k l. ap is_blank (at k) ∙ run (start + k) (omega arith) (omega arith))
+    (λ l. ap is_blank (at count ∙ ap (λ n. get_or text n 0) to_end) ∙ ends (omega arith))
+    ∙ ap (λ others. take count rest ∷ fields_of others) (drop-drop count start text ∙ ap (λ n. drop n text) to_end)
+
 -- one more word behind those that were found
-pub words_pushed : (found next : List (Bor (List ℕ))) (first : Bor (List ℕ)) (others : List Word) → next ≡ found ++ first ∷ []
+words_pushed : (found next : List (Bor (List ℕ))) (first : Bor (List ℕ)) (others : List Word) → next ≡ found ++ first ∷ []
     → words next ++ others ≡ words found ++ first.now ∷ others
 words_pushed found next first others is =
     ap (λ ws. words ws ++ others) is ∙ ap (λ ws. ws ++ others) (map-append word found (first ∷ [])) ∙ append_assoc (words found) (first.now ∷ []) others
 
-zero_is : (n : ℕ) → true ≡ (n == 0) → n ≡ 0
-zero_is n e = grind (arith, nat_tests)
+pub run_pushed : (text : List ℕ) (start end : ℕ) (found next : List (Bor (List ℕ))) (field : Bor (List ℕ)) → start < end → end ≤ length text
+    → ((k : ℕ) → start ≤ k → k < end → is_blank (get_or text k 0) ≡ false) → (end < length text → is_blank (get_or text end 0) ≡ true)
+    → next ≡ found ++ field ∷ [] → field.now ≡ take (end - start) (drop start text)
+    → words next ++ fields_of (drop end text) ≡ words found ++ fields_of (drop start text)
+run_pushed text start end found next field lt le run ends is now =
+    words_pushed found next field (fields_of (drop end text)) is
+    ∙ ap (λ word. words found ++ word ∷ fields_of (drop end text)) now
+    ∙ ap (λ others. words found ++ others) (sym (run_is text start end lt le run ends))
 
 -- nothing is left to be found
-pub all_found : (f : List ℕ → List Word) (found : List Word) (rest whole : List ℕ) → f [] ≡ [] → true ≡ (length rest == 0) → found ++ f rest ≡ f whole → found ≡ f whole
-all_found f found [] whole none e is = sym (ap (λ others. found ++ others) none ∙ append-nil found) ∙ is
-all_found f found (b ∷ rest) whole none e is = let zero = zero_is (length (b ∷ rest)) e in absurd (omega arith)
+pub all_found : (text : List ℕ) (end : ℕ) (found whole : List Word) → length text ≤ end → found ++ fields_of (drop end text) ≡ whole → found ≡ whole
+all_found text end found whole le is = sym (ap (λ rest. found ++ fields_of rest) (drop_of_length-le text le) ∙ append-nil found) ∙ is

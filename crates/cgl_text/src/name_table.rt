@@ -4,6 +4,7 @@ ghost use Rattle.std.specs.Prelude.{◌≡◌, ◌∷◌, ◌++◌, [], false, i
 ghost use Rattle.cgl_text.specs.Text.{is_one_of};
 ghost use Rattle.cgl_text.specs.Seen.{owned_words, word};
 
+use crate::name_key::{AskedName, NameKey};
 use cgl_num::Memory;
 use indexmap::IndexSet;
 use std::alloc::Global;
@@ -13,17 +14,16 @@ use std::marker::Model;
 /// as a list.
 #[derive(Drop)]
 pub struct NameTable {
-    names: IndexSet<Vec<u8>>,
+    names: IndexSet<NameKey>,
 }
 
 impl Model for NameTable {
     ghost use Rattle.std.specs.Prelude.{List};
     ghost use Rattle.cgl_num.specs.NumberText.{Word};
-    ghost use Rattle.cgl_text.specs.Seen.{owned_words};
 
     ghost Value = { List Word };
 
-    ghost view = { λ it. owned_words it.names.keys };
+    ghost view = { λ it. it.names.keys };
 }
 
 impl NameTable {
@@ -64,7 +64,7 @@ impl NameTable {
         let Ok(own) = name.to_vec(*self.names.allocator()) else {
             return Err(Memory);
         };
-        let Ok(found) = self.names.insert_full(own) else {
+        let Ok(found) = self.names.insert_full(NameKey::new(own)) else {
             return Err(Memory);
         };
         Ok(found)
@@ -81,14 +81,14 @@ impl NameTable {
     pub fn find(&self, name: &[u8]) -> Option<usize>
         ensures { result ≡ position (bytes_eq name.now) self.now }
     {
-        self.names.get_index_of(name)
+        self.names.get_index_of(AskedName::new(name))
     }
 
     /// Whether the name is one of these.
     pub fn has(&self, name: &[u8]) -> bool
         ensures { result ≡ is_one_of self.now name.now }
     {
-        self.names.contains(name)
+        self.names.contains(AskedName::new(name))
     }
 
     /// The name at a place.
@@ -110,7 +110,7 @@ impl NameTable {
         ensures { IfOk result (λ names. owned_words names.items ≡ self) }
     {
         let NameTable { names } = self;
-        let Ok(names) = names.into_iter().collect(alloc) else {
+        let Ok(names) = names.into_iter().map(NameKey::into_bytes).collect(alloc) else {
             return Err(Memory);
         };
         Ok(names)

@@ -1,14 +1,15 @@
 //! The fields of a line.
 
-ghost use Rattle.std.specs.Prelude.{◌≡◌, ◌∷◌, ◌<◌, ◌≤◌, ℕ, false, true, IfOk, bytes_eq, length, slice_index};
+ghost use Rattle.std.specs.Prelude.{◌≡◌, ◌++◌, ◌<◌, ◌≤◌, ℕ, false, true, IfOk, OnOk, bytes_eq, drop, length, slice_index};
 ghost use Rattle.cgl_text.specs.Text.{begins_blank, fields_of, is_blank, kept_fields};
 ghost use Rattle.cgl_text.specs.Seen.{words};
 
 use cgl_num::Memory;
+use smallvec::SmallVec;
 use std::alloc::Global;
 
-/// As many fields as a line has at most in most formats.
-const USUAL_FIELDS: usize = 5;
+/// The fields of one line. Up to five need no memory, as most lines have no more.
+pub type Fields<'a> = SmallVec<&'a [u8], 5, Global>;
 
 pub fn same_bytes(a: &[u8], b: &[u8]) -> bool
     ensures { result ≡ bytes_eq a.now b.now }
@@ -32,53 +33,45 @@ pub fn begins_blank(text: &[u8]) -> bool
     }
 }
 
-/// The place of the first blank, or the length.
-fn field_end(text: &[u8]) -> usize
-    ensures within { result ≤ length text.now }
-    ensures before { (k : ℕ) → k < result → is_blank (slice_index text.now k) ≡ false }
-    ensures at { result < length text.now → is_blank (slice_index text.now result) ≡ true }
+/// Takes in the field that ends at a place, where a blank or the line's end stands, and begins at an earlier one. Between
+/// them are no blanks; where no byte is between them, there is no field.
+fn push_field<'a>(
+    found: &mut Fields<'a>,
+    line: &'a [u8],
+    start: usize,
+    end: usize,
+) -> Result<(), Memory>
+    requires within { start ≤ end }
+    requires line { end ≤ length line.now }
+    requires run { (k : ℕ) → start ≤ k → k < end → is_blank (slice_index line.now k) ≡ false }
+    requires ends { end < length line.now → is_blank (slice_index line.now end) ≡ true }
+    ensures { OnOk result (words found.new.items ++ fields_of (drop end line.now) ≡ words found.old.items ++ fields_of (drop start line.now)) }
 {
-    for (i, b) in text.iter().enumerate() {
-        if is_blank(*b) {
-            return i;
-        }
+    if start < end {
+        let Ok(()) = found.push(&line[start..end]) else {
+            return Err(Memory);
+        };
     }
-    text.len()
-}
-
-/// The field that the text begins with, and what follows it.
-fn split_field(text: &[u8]) -> (&[u8], &[u8])
-    requires { begins_blank text.now ≡ false }
-    ensures fields { fields_of text.now ≡ result.0.now ∷ fields_of result.1.now }
-    ensures shorter { length result.1.now < length text.now }
-{
-    let end = field_end(text);
-    (&text[..end], &text[end..])
+    Ok(())
 }
 
 /// The fields of a line: the longest runs of bytes other than space, tab and CR.
 ///
 /// # Errors
 ///
-/// `Memory` where memory for the list of fields is refused.
-pub fn fields(alloc: Global, line: &[u8]) -> Result<Vec<&[u8]>, Memory>
+/// `Memory` where memory for more than five fields is refused.
+pub fn fields(alloc: Global, line: &[u8]) -> Result<Fields<'_>, Memory>
     ensures { IfOk result (λ found. words found.items ≡ fields_of line.now) }
 {
-    let Ok(mut found) = Vec::with_capacity(alloc, USUAL_FIELDS) else {
-        return Err(Memory);
-    };
-    let mut rest = line;
-    'fields: while !rest.is_empty() {
-        if begins_blank(rest) {
-            rest = &rest[1..];
-        } else {
-            let (first, others) = split_field(rest);
-            let Ok(()) = found.push(first) else {
-                return Err(Memory);
-            };
-            rest = others;
+    let mut found = Fields::new(alloc);
+    let mut start = 0;
+    for (i, b) in line.iter().enumerate() {
+        if is_blank(*b) {
+            push_field(&mut found, line, start, i)?;
+            start = i + 1;
         }
     }
+    push_field(&mut found, line, start, line.len())?;
     Ok(found)
 }
 
@@ -86,15 +79,15 @@ pub fn fields(alloc: Global, line: &[u8]) -> Result<Vec<&[u8]>, Memory>
 ///
 /// # Errors
 ///
-/// `Memory` where memory for the list of fields is refused.
-pub fn kept_fields(alloc: Global, line: &[u8]) -> Result<Vec<&[u8]>, Memory>
+/// `Memory` where memory for more than five fields is refused.
+pub fn kept_fields(alloc: Global, line: &[u8]) -> Result<Fields<'_>, Memory>
     ensures { IfOk result (λ found. words found.items ≡ kept_fields line.now) }
 {
     match line {
-        [] => Ok(Vec::new(alloc)),
+        [] => Ok(Fields::new(alloc)),
         [first, ..] => {
             if *first == b'*' {
-                return Ok(Vec::new(alloc));
+                return Ok(Fields::new(alloc));
             }
             fields(alloc, line)
         }
