@@ -1,11 +1,13 @@
 -- The first word of a line, and what it says of the others.
-use Rattle.std.proofs.Common.{◌≡◌, refl, sym, ap, ◌∙◌, ℕ, List, [], ◌∷◌, find, bytes_eq, Option, Some, None, unwrap_or, option_map, option_and_then}
+use Rattle.std.proofs.Common.{◌≡◌, refl, sym, ap, ap₂, ◌∙◌, arith, ℕ, ◌==◌, Bool, true, false, ◌&&◌, not, List, [], ◌∷◌, length, find, bytes_eq, Option, Some, None, unwrap_or, option_map, option_and_then}
+use Rattle.std.proofs.lemmas.Bool.Decides.{nat_tests}
 use Rattle.std.specs.Prelude.{slice_get}
 use denote.Ref.{Bor}
 use Rattle.cgl_num.specs.NumberText.{Word}
-use Rattle.cgl_text.specs.Seen.{word}
+use Rattle.cgl_text.specs.Seen.{word, words}
+use Rattle.cgl_text.specs.Text.{begins_blank, no_field}
 use Rattle.cgl_decode.specs.declared.kinds.BoundKind.{BoundKind}
-use Rattle.cgl_decode.specs.Records.{first_word}
+use Rattle.cgl_decode.specs.Records.{first_word, is_header, kept_fields}
 use Rattle.cgl_decode.specs.Sections.{Bound, bound_in, bound_kinds, bound_with, needs_value, rest}
 use Rattle.cgl_mps.specs.Seen.{bound_kind}
 
@@ -31,3 +33,16 @@ bound_by_kind (word ∷ words) = kind_case words (find (λ (k : Word × BoundKin
 
 pub bound_read : (words : List Word) (kind : Option BoundKind) → bound_kind (unwrap_or (slice_get words 0) []) ≡ kind → with_kind (rest words) kind ≡ bound_in words
 bound_read words kind is = ap (with_kind (rest words)) (sym is) ∙ bound_by_kind words
+
+header_case : (begins empty : Bool) (held : List (Bor (List ℕ))) → not begins ≡ true → empty ≡ (length held == 0) → not empty ≡ (not begins && not (no_field (words held)))
+header_case begins empty [] starts is = ap not is ∙ ap (λ b. b && false) (sym starts)
+header_case begins empty (first ∷ others) starts is = ap not (is ∙ other_length) ∙ ap (λ b. b && true) (sym starts)
+  where
+    other_length : (length (first ∷ others) == 0) ≡ false
+    other_length = grind (arith, nat_tests)
+
+-- a line that begins with no blank begins its section where it has fields
+pub header_read : (line : List ℕ) (begins empty : Bool) (held : List (Bor (List ℕ))) → words held ≡ kept_fields line → begins ≡ begins_blank line → not begins ≡ true
+    → empty ≡ (length held == 0) → not empty ≡ is_header line
+header_read line begins empty held fields blank starts is =
+    header_case begins empty held starts is ∙ ap₂ (λ b found. not b && not (no_field found)) blank fields
