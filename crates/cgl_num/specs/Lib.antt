@@ -3,6 +3,8 @@ pub mod Fraction
 pub mod FractionArithmetic
 pub mod FractionOrder
 pub mod Decimal
+pub mod DecimalEquality
+pub mod DecimalWords
 pub mod NumberText
 pub mod IntegerLaws
 pub mod Words

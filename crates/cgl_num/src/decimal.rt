@@ -1,4 +1,5 @@
-ghost use Rattle.std.specs.Prelude.{◌≡◌, ℕ, ◌<◌, ◌≤◌, ◌*◌, ◌%◌, ◌^◌, ◌≢◌, pos, negsuc, neg_ℤ, cond, ◌≤ℤ◌, ◌+◌, length, take, ◌++◌, decimal, replicate};
+ghost use Rattle.std.specs.Prelude.{◌≡◌, ℕ, ◌<◌, ◌≤◌, ◌*◌, ◌%◌, ◌^◌, ◌≢◌, pos, negsuc, neg_ℤ, cond, ◌≤ℤ◌, ◌+◌, length, take, ◌++◌, decimal, replicate, unsigned_abs};
+ghost use Rattle.std.specs.Int.Signed.{lt_z};
 ghost use Rattle.cgl_num.specs.Decimal.{IsDecimal, decimal_of, decimal_text, magnitude_text, minus, padded, zero_decimal};
 
 use itoa::Buffer;
@@ -8,24 +9,65 @@ const MANTISSA_END: u128 = 1_000_000_000_000_000_000_000_000;
 
 const SIZE_END: u128 = 1_000_000_000_000_000_000_000_000_000_000_000_000;
 
+/// How many values a word of 64 bits has.
+const WORD: u128 = 1 << 64;
+
 /// The number `m * 10^e`, where m is not divisible by 10, or both are 0.
 /// The magnitude of m is below 10^24, that of the number is below 10^36, and e is at least -30.
-#[derive(Clone, Copy, Debug, PartialEq, Eq)]
+///
+/// It takes 16 bytes: m is its sign and its magnitude `high * 2^64 + low`.
+#[derive(Clone, Copy, Debug)]
 pub struct Dec {
-    m: i128,
+    low: u64,
+    high: u32,
     e: i16,
+    negative: bool,
 }
 
 impl Model for Dec {
-    ghost use Rattle.cgl_num.specs.Decimal.{Decimal, IsDecimal};
+    ghost use Rattle.std.specs.Prelude.{◌%◌, ◌/◌, ◌^◌, pos, unsigned_abs};
+    ghost use Rattle.std.specs.Int.Signed.{lt_z};
+    ghost use Rattle.cgl_num.specs.Decimal.{Decimal};
+    ghost use Rattle.cgl_num.specs.DecimalWords.{mantissa, IsPacked, low_back, high_back, sign_back};
 
     ghost Value = { Decimal };
 
-    ghost view = { λ d. record { m = d.m; e = d.e } };
+    ghost view = { λ d. record { m = mantissa d.negative d.high d.low; e = d.e } };
 
-    ghost invariant = { λ d. IsDecimal (record { m = d.m; e = d.e }) };
+    ghost invariant = { λ d. IsPacked d.negative d.high d.low d.e };
 
-    ghost inverse = { λ d. record { m = d.m; e = d.e } };
+    ghost inverse = { λ d. record {
+      low = unsigned_abs d.m % 2 ^ 64;
+      high = unsigned_abs d.m / 2 ^ 64;
+      e = d.e;
+      negative = lt_z d.m (pos 0);
+    } };
+
+    ghost inverse_ok = { λ d packed i. record {
+      low = low_back d.negative d.high d.low packed.word i;
+      high = high_back d.negative d.high d.low packed.word i;
+      e = d.e;
+      negative = sign_back d.negative d.high d.low packed.sign i;
+    } };
+}
+
+impl PartialEq for Dec {
+    ghost use Rattle.std.specs.Cmp.{partial_equiv_from_equiv};
+    ghost use Rattle.cgl_num.specs.DecimalEquality.{decimal_eq, decimal_eq_equiv};
+
+    ghost eq = { decimal_eq };
+
+    ghost laws = { partial_equiv_from_equiv decimal_eq_equiv };
+
+    fn eq(&self, other: &Dec) -> bool {
+        self.m() == other.m() && self.e() == other.e()
+    }
+}
+
+impl Eq for Dec {
+    ghost use Rattle.cgl_num.specs.DecimalEquality.{decimal_eq_equiv};
+
+    ghost laws = { decimal_eq_equiv };
 }
 
 /// The number above 0 without the zeros at its end, and how many these are.
@@ -61,8 +103,12 @@ pub(crate) fn with_sign(negative: bool, m: u128, e: i16) -> Dec
     requires size { (k : ℕ) → e ≡ pos k → m * 10 ^ k < 10 ^ 36 }
     ensures { result ≡ record { m = cond negative (neg_ℤ (pos m)) (pos m); e = e } }
 {
-    let m = signed(negative, m);
-    Dec { m, e }
+    Dec {
+        low: (m % WORD) as u64,
+        high: (m / WORD) as u32,
+        e,
+        negative,
+    }
 }
 
 /// Writes a piece behind the first `at` bytes, and gives the length of all.
@@ -164,12 +210,26 @@ fn sign_len(negative: bool) -> usize
 }
 
 impl Dec {
+    /// The magnitude of m.
+    fn magnitude(self) -> u128
+        ensures value { result ≡ unsigned_abs self.m }
+        ensures valid { IsDecimal self }
+    {
+        self.high as u128 * WORD + self.low as u128
+    }
+
+    fn is_negative(self) -> bool
+        ensures { result ≡ lt_z self.m (pos 0) }
+    {
+        self.negative
+    }
+
     /// m of `m * 10^e`, with the number's sign.
     pub fn m(self) -> i128
         ensures value { result ≡ self.m }
         ensures valid { IsDecimal self }
     {
-        self.m
+        signed(self.is_negative(), self.magnitude())
     }
 
     /// e of `m * 10^e`, from -30 to 35.
@@ -186,7 +246,7 @@ impl Dec {
         ensures { result ≡ decimal_of n }
     {
         if n == 0 {
-            return Some(Dec { m: 0, e: 0 });
+            return Some(Dec::default());
         }
         let magnitude = n.unsigned_abs();
         if magnitude >= SIZE_END {
@@ -205,12 +265,13 @@ impl Dec {
         ensures within { result ≤ 48 }
         ensures text { take result out.new ≡ decimal_text self }
     {
-        let m = self.m.unsigned_abs();
-        let at = put_sign(out, self.m < 0);
-        if self.e < 0 {
-            put_decimals(out, at, m, self.e.unsigned_abs() as usize)
+        let m = self.magnitude();
+        let e = self.e();
+        let at = put_sign(out, self.is_negative());
+        if e < 0 {
+            put_decimals(out, at, m, e.unsigned_abs() as usize)
         } else {
-            put_number(out, at, m * 10u128.pow(self.e as u32))
+            put_number(out, at, m * 10u128.pow(e as u32))
         }
     }
 
@@ -218,10 +279,11 @@ impl Dec {
     pub fn text_len(self) -> usize
         ensures { result ≡ length (decimal_text self) }
     {
-        let sign = sign_len(self.m < 0);
-        let count = digit_count(self.m.unsigned_abs());
-        let scale = self.e.unsigned_abs() as usize;
-        if self.e < 0 {
+        let sign = sign_len(self.is_negative());
+        let count = digit_count(self.magnitude());
+        let e = self.e();
+        let scale = e.unsigned_abs() as usize;
+        if e < 0 {
             sign + (count.max(scale + 1) + 1)
         } else {
             sign + (count + scale)
@@ -234,6 +296,11 @@ impl Default for Dec {
     fn default() -> Dec
         ensures { result ≡ zero_decimal }
     {
-        Dec { m: 0, e: 0 }
+        Dec {
+            low: 0,
+            high: 0,
+            e: 0,
+            negative: false,
+        }
     }
 }

@@ -6,11 +6,11 @@ use Rattle.std.proofs.Common.{to_z, of_z}
 use Rattle.std.proofs.lemmas.Int.{to_z-of_z, ints}
 use Rattle.std.proofs.Math.IntN.{neg_ℤ}
 use Rattle.cgl_num.specs.Decimal.{decimal_of}
-use Rattle.cgl_num.proofs.DecimalLaws.{decimal-is, too_long, too_large, zero-is, with_sign, two, zero_valid}
+use Rattle.cgl_num.proofs.DecimalLaws.{decimal-is, too_long, too_large, zero-is, with_sign, two}
 use Rattle.cgl_num.proofs.decimal.Dec.whole.Goals as goal
 
 pub returns-then-n-eq0 : goal.returns-then-n-eq0
-returns-then-n-eq0 c = sym (ap decimal_of (search rules) ∙ zero-is)
+returns-then-n-eq0 c = sym (ap decimal_of (search rules) ∙ zero-is ∙ ap Some (sym c.default.ensures))
 
 pub returns-then-magnitude-ge-SIZE_END : goal.returns-then-magnitude-ge-SIZE_END
 returns-then-magnitude-ge-SIZE_END c =
@@ -28,6 +28,3 @@ returns c =
     let made : c.with_sign.result ≡ with_sign (lt_z c.args.n (pos 0)) c.without_zeros-m.result.0 c.without_zeros-m.result.1 =
     c.with_sign.ensures ∙ two _ _ _ _ (ap (λ b. cond b (neg_ℤ (pos c.without_zeros-m.result.0)) (pos c.without_zeros-m.result.0)) sign) zeros in
     ap Some made ∙ sym (decimal-is c.args.n _ _ c.without_zeros-m.ensures.normal (c.without_zeros-m.ensures.value ∙ is) c.if-m-ge-MANTISSA_END.false (omega (arith, is)))
-
-pub invariant_of-result : goal.invariant_of-result
-invariant_of-result c = zero_valid
