@@ -1,4 +1,4 @@
-ghost use Rattle.std.specs.Prelude.{◌≡◌, [], ◌∷◌, ◌++◌, OnOk, OnErr};
+ghost use Rattle.std.specs.Prelude.{◌≡◌, [], ◌∷◌, ◌++◌, IfOk, OnOk, OnErr};
 
 use crate::Seq;
 use cgl_num::{Dec, Memory};
@@ -49,6 +49,21 @@ impl Entries {
     {
         Entries {
             items: SmallVec::new(alloc),
+        }
+    }
+
+    /// The empty list, with memory for a count of entries.
+    ///
+    /// # Errors
+    ///
+    /// `Memory` where memory for them is refused.
+    pub fn with_capacity(alloc: Global, count: usize) -> Result<Entries, Memory>
+        ensures { IfOk result (λ entries. entries ≡ []) }
+    {
+        let mut items = SmallVec::new(alloc);
+        match items.reserve(count) {
+            Ok(()) => Ok(Entries { items }),
+            Err(_) => Err(Memory),
         }
     }
 

@@ -1,6 +1,6 @@
 //! The columns of the lines so far, by their numbers.
 
-ghost use Rattle.std.specs.Prelude.{◌≡◌, ◌∷◌, ◌++◌, ◌-◌, [], ℕ, Bool, false, IsSome, List, OnOk, Some, bytes_eq, length, option_map, position, slice_get, slice_set, unwrap_or};
+ghost use Rattle.std.specs.Prelude.{◌≡◌, ◌∷◌, ◌++◌, ◌-◌, [], ℕ, Bool, false, IfOk, IsSome, List, OnOk, Some, bytes_eq, length, option_map, position, slice_get, slice_set, unwrap_or};
 ghost use Rattle.cgl_num.specs.Decimal.{Decimal};
 ghost use Rattle.cgl_num.specs.NumberText.{Word, number};
 ghost use Rattle.cgl_text.specs.Text.{is_one_of};
@@ -83,6 +83,16 @@ fn shrink_last(columns: &mut Vec<ReadColumn>)
 {
     if let Some(last) = columns.last_mut() {
         last.entries.shrink_to_fit();
+    }
+}
+
+/// No entries, with memory for as many as the last column has: most columns of a deck are alike.
+fn entries_like_last(alloc: Global, columns: &[ReadColumn]) -> Result<Entries, Memory>
+    ensures { IfOk result (λ entries. entries ≡ []) }
+{
+    match columns.last() {
+        Some(last) => Entries::with_capacity(alloc, last.entries.as_slice().len()),
+        None => Ok(Entries::new(alloc)),
     }
 }
 
@@ -202,11 +212,12 @@ impl ColumnTable {
             → AreColumns rows read self.old → is_one_of (names_of (all_of read)) name.now ≡ false
             → AreColumns rows (begun read name.now) self.new) }
     {
+        let entries = entries_like_last(alloc, self.columns.as_slice())?;
         shrink_last(&mut self.columns);
         self.names.find_or_push(name)?;
         let Ok(()) = self.columns.push(ReadColumn {
             marked: self.marked,
-            entries: Entries::new(alloc),
+            entries,
         })
         else {
             return Err(Memory);

@@ -8,4 +8,4 @@ returns c = λ rows read is absent.
     column_begun rows read _ c.args.name.now c.find_or_push.new.self c.push.new.self.items
     (subst (λ (t : ColumnTable). AreColumns rows read t) (sym c.self.view_is) is) absent
     c.in_ok-find_or_push.ensures.names
-    (c.in-Ok.ensures.items ∙ ap₂ (λ columns entries. columns ++ (c.self.inside.marked, entries) ∷ []) c.shrink_last.ensures c.new.ensures)
+    (c.in-Ok.ensures.items ∙ ap₂ (λ columns entries. columns ++ (c.self.inside.marked, entries) ∷ []) c.shrink_last.ensures c.in_ok-entries.ensures)
