@@ -3,6 +3,7 @@ ghost use Rattle.std.specs.Int.Signed.{lt_z};
 ghost use Rattle.cgl_num.specs.Decimal.{IsDecimal, decimal_of, decimal_text, magnitude_text, minus, padded, zero_decimal};
 
 use itoa::Buffer;
+use std::fmt;
 use std::marker::Model;
 
 const MANTISSA_END: u128 = 1_000_000_000_000_000_000_000_000;
@@ -16,7 +17,7 @@ const WORD: u128 = 1 << 64;
 /// The magnitude of m is below 10^24, that of the number is below 10^36, and e is at least -30.
 ///
 /// It takes 16 bytes: m is its sign and its magnitude `high * 2^64 + low`.
-#[derive(Clone, Copy, Debug)]
+#[derive(Clone, Copy)]
 pub struct Dec {
     low: u64,
     high: u32,
@@ -49,6 +50,16 @@ impl Model for Dec {
       e = d.e;
       negative = sign_back d.negative d.high d.low packed.sign i;
     } };
+}
+
+impl fmt::Debug for Dec {
+    /// Writes m and e.
+    fn fmt<W: fmt::Write>(&self, f: &mut fmt::Formatter<W>) -> fmt::Result {
+        f.debug_struct("Dec")
+            .field("m", &self.m())
+            .field("e", &self.e())
+            .finish()
+    }
 }
 
 impl PartialEq for Dec {
