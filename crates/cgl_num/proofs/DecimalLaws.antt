@@ -2,15 +2,13 @@
 use Rattle.std.proofs.Common.{◌≡◌, ◌≢◌, refl, sym, ap, subst, ◌∙◌, arith, ℕ, zero, suc, ◌+◌, ◌-◌, ◌*◌, ◌/◌, ◌%◌, ◌^◌, ◌<◌, ◌≤◌, Bool, true, false, cond, ◌&&◌, Some, None, List, ◌∷◌, ◌++◌, length, decimal, nat_lt, pow-suc, pow-add, ⊎_elim, inl, inr, ◌⊎◌, add-one, mul-le-mul_right, ltb, lit<}
 use Rattle.std.specs.Prelude.{ℤ, pos, negsuc, unsigned_abs, ◌*ℤ◌, ◌≤ℤ◌}
 use Rattle.std.proofs.Math.IntN.{neg_ℤ}
-use Rattle.std.proofs.Math.Nat.{mul-div_cancel, mul-mod_left, mod-lt, div-eq_of_eq-mul_left, div-lt_iff_lt-mul, div-eq_of_lt}
+use Rattle.std.proofs.Math.Nat.{mul-div_cancel, mul-mod_left, div-eq_of_eq-mul_left, div-lt_iff_lt-mul, div-eq_of_lt}
 use Rattle.std.proofs.lemmas.Fmt.{length-decimal-le_wide}
 use Rattle.std.proofs.lemmas.Bool.{lt-ltb, ltb-true, cases_lt}
 use Rattle.std.proofs.lemmas.Bool.Decides.{nat_tests}
 use Rattle.std.specs.Int.Signed.{lt_z}
 use Rattle.cgl_num.specs.Decimal.{Decimal, zeros_within, normal_of, decimal_of, zero_decimal, magnitude_text, padded, sign_text, minus, IsDecimal, times_power, decimal_text, places_in, places, scaled_by, scaled}
 use Rattle.std.proofs.lemmas.Int.{ints}
-use Rattle.std.proofs.lemmas.Nat.{shr_split}
-use Rattle.cgl_num.specs.DecimalWords.{magnitude, IsPacked}
 use Rattle.cgl_num.specs.IntegerLaws.{*ℤ_assoc, neg-*ℤ}
 
 pub not_below : (a b : ℕ) → b ≤ a → nat_lt a b ≡ false
@@ -367,17 +365,6 @@ parts_valid b m (pos k) ne digits scale size =
     sign_valid b m (pos k) ne digits scale (omega (arith, size k refl, magnitude_times (cond b (neg_ℤ (pos m)) (pos m)) (10 ^ k), ap (λ x. x * 10 ^ k) (sign_keeps b m)))
 parts_valid b m (negsuc k) ne digits scale size =
     sign_valid b m (negsuc k) ne digits scale (omega (arith, digits, sign_keeps b m))
-
--- a mantissa other than 0, as a sign and two words
-pub packed : (negative : Bool) (m : ℕ) (e : ℤ) → 0 < m → IsDecimal (pair (cond negative (neg_ℤ (pos m)) (pos m)) e)
-    → IsPacked negative (m / 2 ^ 64) (m % 2 ^ 64) e
-packed negative m e some valid =
-    let whole : magnitude (m / 2 ^ 64) (m % 2 ^ 64) ≡ m = shr_split m 64 in
-    record {
-      decimal = subst (λ n. IsDecimal (pair (cond negative (neg_ℤ (pos n)) (pos n)) e)) (sym whole) valid;
-      word = mod-lt m (lit< tt);
-      sign = (λ _. subst (λ n. 0 < n) (sym whole) some);
-    }
 
 -- a decimal without places is that of its value
 normal_mod : (d : Decimal) (m : ℕ) → IsDecimal d → unsigned_abs d.m ≡ m → d.m ≢ pos 0 → m % 10 ≢ 0

@@ -1,5 +1,6 @@
 pub mod ArithmeticLaws
 pub mod DecimalLaws
+pub mod DecimalWordLaws
 pub mod DigitLaws
 pub mod DigitTextLaws
 pub mod FractionLaws

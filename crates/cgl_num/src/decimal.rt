@@ -25,6 +25,8 @@ pub struct Dec {
     negative: bool,
 }
 
+const _: () = prove!(size_of::<Dec>() == 16);
+
 impl Model for Dec {
     ghost use Rattle.std.specs.Prelude.{◌%◌, ◌/◌, ◌^◌, pos, unsigned_abs};
     ghost use Rattle.std.specs.Int.Signed.{lt_z};

@@ -2,7 +2,8 @@ use Rattle.std.proofs.Common.{subst, sym, ◌/◌, ◌%◌, ◌^◌}
 use Rattle.std.specs.Int.{w16}
 use Rattle.std.proofs.lemmas.Int.{to_z-of_z}
 use Rattle.cgl_num.specs.DecimalWords.{IsPacked}
-use Rattle.cgl_num.proofs.DecimalLaws.{not_multiple, packed, parts_valid}
+use Rattle.cgl_num.proofs.DecimalLaws.{not_multiple, parts_valid}
+use Rattle.cgl_num.proofs.DecimalWordLaws.{packed}
 use Rattle.cgl_num.proofs.decimal.with_sign.Goals as goal
 
 pub invariant_of-result : goal.invariant_of-result
