@@ -1,7 +1,8 @@
 //! Texts that are written or only measured.
 
-ghost use Rattle.std.specs.Prelude.{◌≡◌};
+ghost use Rattle.std.specs.Prelude.{◌≡◌, ℕ, List, false, is_some, length};
 ghost use Rattle.cgl_num.specs.Decimal.{decimal_text};
+ghost use Rattle.cgl_deck.specs.DeckLength.{most};
 ghost use Rattle.cgl_deck.specs.DeckOutput.{Longer};
 
 use cgl_num::Dec;
@@ -24,6 +25,21 @@ impl Output {
             len: 0,
             bytes: None,
         }
+    }
+
+    /// Whether the bytes are kept.
+    pub(crate) fn is_kept(&self) -> bool
+        ensures { result ≡ is_some self.now.bytes }
+    {
+        self.bytes.is_some()
+    }
+
+    /// Measures a piece of this length, where bytes are not kept.
+    pub(crate) fn measure(&mut self, len: u64)
+        requires { is_some self.old.bytes ≡ false }
+        ensures { (piece : List ℕ) → len ≡ most (length piece) → Longer piece self.old self.new }
+    {
+        self.len = self.len.saturating_add(len);
     }
 
     /// Puts a piece behind the text.

@@ -1,4 +1,4 @@
-ghost use Rattle.std.specs.Prelude.{◌≡◌, [], ◌∷◌, ◌&&◌, codes, false, flat_map, length, map, not, pos, int_lt, IfOk};
+ghost use Rattle.std.specs.Prelude.{◌≡◌, ◌≤◌, ◌+◌, [], ◌∷◌, ◌++◌, ◌&&◌, codes, false, flat_map, length, map, not, pos, int_lt, take, IfOk};
 ghost use Rattle.std.specs.List.{list_any};
 ghost use Rattle.cgl_num.specs.Decimal.{decimal_text};
 ghost use Rattle.cgl_deck.specs.DeckLength.{most};
@@ -10,6 +10,9 @@ use cgl_model::{Column, Model, Row, RowKind};
 use cgl_num::{Dec, Memory};
 use cgl_text::Builder;
 use std::alloc::Global;
+
+/// The most bytes of a word in a line that is put together before it is written.
+const SHORT_WORD: usize = 54;
 
 // ---- numbers
 
@@ -54,14 +57,68 @@ fn add_line(output: &mut Output, words: &[&[u8]])
     output.append(b"\n");
 }
 
-/// A line that ends with a number.
-fn add_number_line(output: &mut Output, first: &[u8], second: &[u8], number: Dec)
+/// Puts a piece into a line at a place. The place behind it.
+fn put(line: &mut [u8], at: usize, piece: &[u8]) -> usize
+    requires room { at + length piece.now ≤ length line.old }
+    ensures text { take result line.new ≡ take at line.old ++ piece.now }
+    ensures place { result ≡ at + length piece.now }
+    ensures length { length line.new ≡ length line.old }
+{
+    let end = at + piece.len();
+    line[at..end].copy_from_slice(piece);
+    end
+}
+
+/// A line with short names that ends with a number, put together before it is written.
+fn add_short_line(output: &mut Output, first: &[u8], second: &[u8], number: Dec)
+    requires first { length first.now ≤ 54 }
+    requires second { length second.now ≤ 54 }
+    ensures { Longer (data_line (first.now ∷ second.now ∷ decimal_text number ∷ [])) output.old output.new }
+{
+    let mut digits = [0; 48];
+    let count = number.digits(&mut digits);
+    let mut line = [0; 160];
+    let at = put(&mut line, 0, b" ");
+    let at = put(&mut line, at, first);
+    let at = put(&mut line, at, b" ");
+    let at = put(&mut line, at, second);
+    let at = put(&mut line, at, b" ");
+    let at = put(&mut line, at, &digits[..count]);
+    let at = put(&mut line, at, b"\n");
+    output.append(&line[..at]);
+}
+
+/// The length of a line that ends with a number, or the greatest u64.
+fn number_line_len(first: &[u8], second: &[u8], number: Dec) -> u64
+    ensures { result ≡ most (length (data_line (first.now ∷ second.now ∷ decimal_text number ∷ []))) }
+{
+    (first.len() as u64)
+        .saturating_add(second.len() as u64)
+        .saturating_add(number.text_len() as u64)
+        .saturating_add(4)
+}
+
+/// A line that ends with a number, of words of any length.
+fn add_long_line(output: &mut Output, first: &[u8], second: &[u8], number: Dec)
     ensures { Longer (data_line (first.now ∷ second.now ∷ decimal_text number ∷ [])) output.old output.new }
 {
     add_word(output, first);
     add_word(output, second);
     add_number(output, number);
     output.append(b"\n");
+}
+
+/// A line that ends with a number.
+fn add_number_line(output: &mut Output, first: &[u8], second: &[u8], number: Dec)
+    ensures { Longer (data_line (first.now ∷ second.now ∷ decimal_text number ∷ [])) output.old output.new }
+{
+    if !output.is_kept() {
+        output.measure(number_line_len(first, second, number));
+    } else if first.len() <= SHORT_WORD && second.len() <= SHORT_WORD {
+        add_short_line(output, first, second, number);
+    } else {
+        add_long_line(output, first, second, number);
+    }
 }
 
 // ---- name and sense

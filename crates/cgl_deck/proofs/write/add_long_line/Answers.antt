@@ -1,6 +1,6 @@
 use Rattle.cgl_num.specs.Decimal.{decimal_text}
 use Rattle.cgl_deck.proofs.TurnLaws.{three_words}
-use Rattle.cgl_deck.proofs.write.add_number_line.Goals as goal
+use Rattle.cgl_deck.proofs.write.add_long_line.Goals as goal
 
 pub returns : goal.returns
 returns c =
