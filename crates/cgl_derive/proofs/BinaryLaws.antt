@@ -1,5 +1,5 @@
 -- Whether an inequality holds at each point of zeros and ones is a test.
-use Rattle.std.proofs.Common.{◌≡◌, ℕ, zero, suc, ℤ, Bool, true, false, not, ◌&&◌, ◌||◌, List, [], ◌∷◌, length, map, refl, ap, arith}
+use Rattle.std.proofs.Common.{◌≡◌, ℕ, zero, suc, ℤ, Bool, true, false, not, ◌||◌, List, [], ◌∷◌, length, map, refl, ap, arith}
 use Rattle.std.specs.Prelude.{◌≤ℤ◌, ◌*ℤ◌, ◌↔◌, int_le, pos, IsTrue}
 use Rattle.std.proofs.lemmas.Int.{ints}
 use Rattle.cgl_model.specs.declared.linear.Ineq.{Ineq}

@@ -1,14 +1,11 @@
 -- What is right of known knapsack steps.
-use Rattle.std.proofs.Common.{◌≡◌, ℕ, zero, suc, ℤ, pos, negsuc, ◌^◌, Bool, true, false, not, ◌&&◌, ◌||◌, List, [], ◌∷◌, length, map, Option, Some, None, IfSome, refl, sym, subst, inl, inr, arith}
-use Rattle.std.specs.Prelude.{◌≤ℤ◌, ◌*ℤ◌, int_le}
+use Rattle.std.proofs.Common.{◌≡◌, ℤ, pos, negsuc, ◌^◌, true, false, [], ◌∷◌, Option, Some, None, IfSome, refl, sym, subst, inl, inr, arith}
 use Rattle.std.proofs.lemmas.Int.{ints}
 use Rattle.cgl_num.specs.Gcd.{gcd, gcd_of}
 use Rattle.cgl_num.specs.Fraction.{lowest}
 use Rattle.cgl_model.specs.declared.linear.Ineq.{Ineq}
 use Rattle.cgl_model.specs.declared.mip.Column.{Column}
-use Rattle.cgl_model.specs.declared.mip.Model.{Model}
 use Rattle.cgl_model.specs.declared.places.End.TheVariants.{Lower, Upper}
-use Rattle.cgl_model.specs.Inequality.{sum_at}
 use Rattle.cgl_model.specs.IntegerForm.{forms_of, row_shape}
 use Rattle.cgl_derive.specs.declared.step.Ref.TheVariants as by
 use Rattle.cgl_derive.specs.Binary.{IsBinary, IsBinaryAt, holds_at_bits, holds_of_all, meets_at}

@@ -81,7 +81,7 @@ below_one = below ((0, pos 1) ∷ []) (pos 1)
 abbrev above_one : Ineq
 above_one = above ((0, pos 1) ∷ []) (pos 1)
 
-left_right : (n d : ℕ) (givens : List Ineq) → length givens ≡ d → DerivesWithin one_column [] n (givens ++ below_one ∷ []) [] (out-Derivation (left_case d)).steps at_most_one
+pub left_right : (n d : ℕ) (givens : List Ineq) → length givens ≡ d → DerivesWithin one_column [] n (givens ++ below_one ∷ []) [] (out-Derivation (left_case d)).steps at_most_one
 left_right n d givens e =
     let sum : Lin = record { refs = (by.Given d, pos 2) ∷ []; q = pos 2; claim = at_most_one } in
     let P : Option Ineq → Type 0 = λ o. IsRightLin one_column (onto_parts o (pos 2) (Some [])) sum in
@@ -152,7 +152,7 @@ too_deep goal h = nested_wrong 64 64 0 [] goal (omega arith) h
 once : (z : ℤ) → pos 1 *ℤ z +ℤ pos 0 ≡ pos 1 *ℤ z
 once z = omega (arith, ints)
 
-once_right : LinIsRight one_column ((at_most_one, pos 1) ∷ []) (pos 1) at_most_one
+pub once_right : LinIsRight one_column ((at_most_one, pos 1) ∷ []) (pos 1) at_most_one
 once_right = record {
   multipliers = (omega (arith, ints), tt);
   positive = omega (arith, ints);

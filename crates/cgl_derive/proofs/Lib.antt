@@ -17,5 +17,6 @@ pub mod BookSound
 pub mod LayerLaws
 pub mod ColumnLaws
 pub mod KnownLaws
+pub mod KnownSplitLaws
 pub mod KnownKnapsackLaws
 pub mod KnownBookLaws

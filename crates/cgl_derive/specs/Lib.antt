@@ -9,5 +9,6 @@ pub mod Rounding
 pub mod Soundness
 pub mod Totals
 pub mod KnownDerivations
+pub mod KnownSplits
 pub mod KnownKnapsacks
 pub mod KnownBooks

@@ -1,6 +1,6 @@
 //! Known derivations.
 
-ghost use Rattle.std.specs.Prelude.{ℤ, pos, negsuc, ◌^◌, [], ◌∷◌};
+ghost use Rattle.std.specs.Prelude.{ℤ, pos, negsuc, ◌-ℤ◌, ◌^◌, [], ◌∷◌};
 ghost use Rattle.cgl_model.specs.declared.linear.Ineq.{Ineq};
 ghost use Rattle.cgl_model.specs.declared.places.End.TheVariants.{Lower, Upper};
 ghost use Rattle.cgl_derive.specs.declared.step.Ref.TheVariants.{Given, Shared, Step as Claim};
@@ -9,6 +9,7 @@ ghost use Rattle.cgl_derive.specs.Derives.{Derives, LinIsRight};
 ghost use Rattle.cgl_derive.specs.Layers.{derivation};
 ghost use Rattle.cgl_derive.specs.KnownBooks.{beyond_book, circular_book, lacking_book, plain_book, shared_book, three_binaries};
 ghost use Rattle.cgl_derive.specs.KnownDerivations.{at_least, at_most_one, by_cases, by_three, contradiction, end_of_row, halved, infeasible, nested, one_column, other_column, other_end, over_continuous, repeated_column, summed, too_great, too_wide, two_columns};
+ghost use Rattle.cgl_derive.specs.KnownSplits.{absurd_case, after_cases, by_zero, cases_at, claim_before, continuous_cases, greatest, nothing_said, one_case_twice, opposite_ends};
 ghost use Rattle.cgl_derive.specs.KnownKnapsacks.{at_most, both_signs, by_knap, complemented, end_of_first, enough, four_weights, great_multiple, lifted_cover, lifted_too_far, one_of_two, turned};
 
 /// Over `2x <= 3` with x integer, `-x >= -1` follows by rounding and by cases; and what is not right proves nothing: no
@@ -30,6 +31,31 @@ pub fn known_derivations()
     ensures wide { (goal : Ineq) → ¬ Derives one_column [] too_wide goal }
     ensures column { (goal : Ineq) → ¬ Derives one_column [] (summed [] other_column) goal }
     ensures shared_column { (goal : Ineq) → ¬ Derives one_column (other_column ∷ []) (summed ((Shared 0, pos 1) ∷ []) other_column) goal }
+{}
+
+/// Over `2x <= 3` with x integer, sums: no references say `0 >= 0`, and a claim may have a lesser right side. What is not
+/// right: a sum whose q is 0, though both sides are 0 then, and a greater right side. Over `2x = 1`, both ends 2^125 times
+/// are too wide, though their sum is 0.
+pub fn known_sums()
+    ensures none { Derives one_column [] (summed [] nothing_said) nothing_said }
+    ensures weaker { Derives one_column [] (summed ((end_of_row Upper, pos 1) ∷ []) (at_least (negsuc 1) (negsuc 6))) (at_least (negsuc 1) (negsuc 6)) }
+    ensures zero { (goal : Ineq) → ¬ Derives one_column [] by_zero goal }
+    ensures stronger { (goal : Ineq) → ¬ Derives one_column [] (summed ((end_of_row Upper, pos 1) ∷ []) (at_least (negsuc 1) (negsuc 1))) goal }
+    ensures magnitudes { (goal : Ineq) → ¬ Derives infeasible [] (opposite_ends (pos (2 ^ 125))) goal }
+{}
+
+/// Over `2x <= 3` with x integer, cases: a branch may end in `0 >= 1`, it sees the claims before the split, and p0 may be
+/// 2^127 - 2. What is not right: the left given in the right branch, a claim or a given of a branch behind the split, and
+/// p0 one greater. Over `2x - s <= 3` with s continuous, there are no cases of s.
+pub fn known_splits()
+    ensures absurd { Derives one_column [] absurd_case at_most_one }
+    ensures before { Derives one_column [] claim_before at_most_one }
+    ensures greatest { Derives one_column [] (cases_at (greatest -ℤ pos 1)) nothing_said }
+    ensures case { (goal : Ineq) → ¬ Derives one_column [] one_case_twice goal }
+    ensures claim { (goal : Ineq) → ¬ Derives one_column [] (after_cases (Claim 1)) goal }
+    ensures given { (goal : Ineq) → ¬ Derives one_column [] (after_cases (Given 0)) goal }
+    ensures wide { (goal : Ineq) → ¬ Derives one_column [] (cases_at greatest) goal }
+    ensures continuous { (goal : Ineq) → ¬ Derives two_columns [] continuous_cases goal }
 {}
 
 /// At most 64 splits are inside each other.

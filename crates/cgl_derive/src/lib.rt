@@ -19,7 +19,7 @@ pub use columns::{are_binary, are_columns, are_integers, is_binary, is_integer};
 pub use division::{ceiling, divides, divides_all, divisor_of, rounded};
 pub use known::{
     known_books, known_coefficients, known_continuous, known_contradiction, known_depths,
-    known_derivations, known_knapsacks, known_limits,
+    known_derivations, known_knapsacks, known_limits, known_splits, known_sums,
 };
 pub use laws::{
     books, coefficient_laws, divisors, knapsacks, lists, rounding, soundness, steps, weighted_sums,
