@@ -1,4 +1,4 @@
-use Rattle.std.proofs.Common.{◌≡◌, ◌≤◌, ◌==◌, ◌∙◌, ap, sym, arith, ℕ, length, true, not, Option, None}
+use Rattle.std.proofs.Common.{◌≡◌, ◌≤◌, ◌∙◌, ap, sym, arith, ℕ, length, true, not, Option, None}
 use Rattle.cgl_text.specs.Conditions.{first_kind}
 use Rattle.cgl_where.specs.PointFile.{Record, is_kept, record_of}
 use Rattle.cgl_where.specs.Carried.{FollowsLine, TakesIn, carried_conditions}
@@ -13,7 +13,7 @@ returns-then-line-gt-LONGEST_LINE c = λ n. follows_long c.args.columns.now (rec
 pub returns-then-is_empty : goal.returns-then-is_empty
 returns-then-is_empty c = λ n.
     follows_blank c.args.columns.now (record_of n c.args.line.now) _ (omega arith)
-    (kept_is _ c.args.line.now n c.is_empty.result c.in-Ok.ensures (c.is_empty.ensures ∙ ap (λ n. n == 0) c.in-Ok.fields.ok.0) ∙ ap not c.if-is_empty.true)
+    (kept_is _ c.args.line.now n c.is_empty.result c.in-Ok.ensures c.is_empty.ensures ∙ ap not c.if-is_empty.true)
 
 pub returns : goal.returns
 returns c =
@@ -26,11 +26,11 @@ returns c =
     let K : Option ℕ → Type 0 = λ kind. (r : Record) → r.fields ≡ words fields → kind ≡ first_kind (carried_conditions m old r) in
     let T : Option ℕ → Type 0 = λ kind. (r : Record) → r.fields ≡ words fields → kind ≡ None → TakesIn m r old new in
     let F : Option ℕ → Type 0 = λ kind. (n : ℕ) → FollowsLine m (record_of n line) kind old new in
-    let fields_are : kept_fields line ≡ words fields = sym (ap words c.as_slice.ensures.value ∙ c.in-Ok.ensures) in
+    let fields_are : kept_fields line ≡ words fields = sym (ap words c.as_slice.ensures ∙ c.in-Ok.ensures) in
     if_ok_both K T F c.take_value.result
     (λ kind is takes n.
     let r = record_of n line in
     let filled : is_kept r ≡ true =
-    kept_is c.in-Ok.fields.items line n c.is_empty.result c.in-Ok.ensures (c.is_empty.ensures ∙ ap (λ k. k == 0) c.in-Ok.fields.ok.0) ∙ ap not c.if-is_empty.false in
+    kept_is c.in-Ok.fields.items line n c.is_empty.result c.in-Ok.ensures c.is_empty.ensures ∙ ap not c.if-is_empty.false in
     follows_value m r kind old new short filled (is r fields_are) (takes r fields_are))
     c.take_value.ensures.kind c.take_value.ensures.taken
