@@ -1,0 +1,13 @@
+pub mod Places
+pub mod Tests
+pub mod FirstFailure
+pub mod Accepted
+pub mod LinearIneq
+pub mod Walk
+pub mod Nested
+pub mod Knapsacks
+pub mod Room
+pub mod KnownFailures
+pub mod KnownOrders
+pub mod KnownRefusals
+pub mod Covered
