@@ -219,3 +219,15 @@ columns_unsigned n false p all = all
 
 pub part_next : (parts : List Part) (i : ℕ) (d p : Part) → i < length parts → get_or parts i d ≡ p → take (i + 1) parts ≡ take i parts ++ p ∷ []
 part_next parts i d p h e = take_more parts i d h ∙ ap (λ x. take i parts ++ x ∷ []) e
+
+-- none of the first items is so, and the next one is not so either
+pub any_more : {X : Type 0} (p : X → Bool) (xs : List X) (i : ℕ) (d : X) → i < length xs → list_any p (take i xs) ≡ false → p (get_or xs i d) ≡ false → list_any p (take (i + 1) xs) ≡ false
+any_more {X = X} p xs i d below none here = ap (list_any p) (take_more xs i d below) ∙ any_end (take i xs) (get_or xs i d) none here
+  where
+    by_rest : (here rest more : Bool) → (here || rest) ≡ false → (rest ≡ false → more ≡ false) → (here || more) ≡ false
+    by_rest true rest more e later = e
+    by_rest false rest more e later = later e
+
+    any_end : (ys : List X) (y : X) → list_any p ys ≡ false → p y ≡ false → list_any p (ys ++ y ∷ []) ≡ false
+    any_end [] y none here = ap (λ b. b || false) here
+    any_end (x ∷ ys) y none here = by_rest (p x) (list_any p ys) (list_any p (ys ++ y ∷ [])) none (λ e. any_end ys y e here)

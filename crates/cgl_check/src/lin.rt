@@ -65,7 +65,7 @@ fn has_missing(scope: &Scope<'_>, frames: &[Frame], own: usize, refs: &[(Ref, i1
     false
 }
 
-/// The weighted sum of what the references mean, each of which means something. Answers whether it is too wide.
+/// The weighted sum of what the references mean. `Wide` where one means nothing, or else the sum is too wide.
 fn add_all(
     scope: &Scope<'_>,
     frames: &[Frame],
@@ -77,18 +77,19 @@ fn add_all(
     requires at { IsAt scope.now frames.now own }
     requires size { length sum.old.columns ≡ length scope.now.model.now.cols }
     requires none { list_any (λ r. int_lt r.1 (pos 0)) refs.now ≡ false }
-    requires some { list_any (λ r. is_none (meant_at scope.now frames.now own r.0)) refs.now ≡ false }
+    ensures some { OnOk result (list_any (λ r. is_none (meant_at scope.now frames.now own r.0)) refs.now ≡ false) }
     ensures size { length sum.new.columns ≡ length scope.now.model.now.cols }
     ensures sum { OnOk result (IsSumOf (parts_in (meant_at scope.now frames.now own) refs.now) sum.new) }
     ensures narrow { OnOk result (are_narrow_sums scope.now.model.now (parts_in (meant_at scope.now frames.now own) refs.now) ≡ true) }
-    ensures wide { OnErr result (are_narrow_sums scope.now.model.now (parts_in (meant_at scope.now frames.now own) refs.now) ≡ false) }
+    ensures wide { OnErr result (list_any (λ r. is_none (meant_at scope.now frames.now own r.0)) refs.now ≡ false
+        → are_narrow_sums scope.now.model.now (parts_in (meant_at scope.now frames.now own) refs.now) ≡ false) }
 {
     weighted_sums();
     coefficient_laws();
     sum.clear();
     for part in refs {
         let Some(from) = meant(scope, frames, own, part.0) else {
-            continue;
+            return Err(Wide);
         };
         let Ok(()) = add(sum, from, part.1) else {
             return Err(Wide);
@@ -121,11 +122,12 @@ pub fn lin_failure(
     if lin.q < 1 {
         return Some(BAD_SUM);
     }
-    if has_missing(scope, frames, own, refs) {
-        return Some(BAD_REF);
-    }
     coefficient_laws();
     let Ok(()) = add_all(scope, frames, own, sum, refs) else {
+        // a reference to nothing comes before any sum, and most sums have none
+        if has_missing(scope, frames, own, refs) {
+            return Some(BAD_REF);
+        }
         return Some(WIDE);
     };
     match sum.proves(lin.q, &lin.claim) {

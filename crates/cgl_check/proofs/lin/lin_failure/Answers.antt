@@ -36,7 +36,7 @@ returns-in_default-clause-failure c =
     let columns = sym (rw c.as_slice.ensures.value at c.if-not-are_columns.ensures.test) in
     let none = sym (rw c.as_slice-refs.ensures at c.if-has_negative.ensures) in
     let some = sym (rw c.as_slice-refs.ensures at c.if-has_missing.ensures) in
-    let wide = rw c.as_slice-refs.ensures at c.in_default.ensures.wide in
+    let wide = (rw c.as_slice-refs.ensures at c.in_default.ensures.wide) some in
     too_wide m lin (parts_of means lin.refs) (parts_in means lin.refs) (parts_there means lin.refs some) wide ∙ head_passed m means lin columns none (zero_above lin.q positive)
 
 pub proves-requires : goal.proves-requires
@@ -55,7 +55,7 @@ returns-in-Err-clause-failure c =
     let positive : pos 0 <ℤ lin.q = omega (arith, ints, c.if-lin-lt1.false) in
     let columns = sym (rw c.as_slice.ensures.value at c.if-not-are_columns.ensures.test) in
     let none = sym (rw c.as_slice-refs.ensures at c.if-has_negative.ensures) in
-    let some = sym (rw c.as_slice-refs.ensures at c.if-has_missing.ensures) in
+    let some = rw c.as_slice-refs.ensures at c.in-Ok.ensures.some in
     let wide = rw q_is at c.in-Err.ensures.wide in
     claim_too_wide m lin (parts_of means lin.refs) wide (parts_in means lin.refs) (parts_there means lin.refs some) ∙ head_passed m means lin columns none (zero_above lin.q positive)
 
@@ -69,7 +69,7 @@ returns-in-Ok-true-clause-failure c =
     let positive : pos 0 <ℤ lin.q = omega (arith, ints, c.if-lin-lt1.false) in
     let columns = sym (rw c.as_slice.ensures.value at c.if-not-are_columns.ensures.test) in
     let none = sym (rw c.as_slice-refs.ensures at c.if-has_negative.ensures) in
-    let some = sym (rw c.as_slice-refs.ensures at c.if-has_missing.ensures) in
+    let some = rw c.as_slice-refs.ensures at c.in-Ok.ensures.some in
     let parts = parts_in means lin.refs in
     let sum = rw c.as_slice-refs.ensures at c.in-Ok.ensures.sum in
     let narrow = rw c.as_slice-refs.ensures at c.in-Ok.ensures.narrow in
@@ -88,7 +88,7 @@ returns-in-Ok-false-clause-failure c =
     let positive : pos 0 <ℤ lin.q = omega (arith, ints, c.if-lin-lt1.false) in
     let columns = sym (rw c.as_slice.ensures.value at c.if-not-are_columns.ensures.test) in
     let none = sym (rw c.as_slice-refs.ensures at c.if-has_negative.ensures) in
-    let some = sym (rw c.as_slice-refs.ensures at c.if-has_missing.ensures) in
+    let some = rw c.as_slice-refs.ensures at c.in-Ok.ensures.some in
     let parts = parts_in means lin.refs in
     let there = parts_there means lin.refs some in
     let sum = rw c.as_slice-refs.ensures at c.in-Ok.ensures.sum in
