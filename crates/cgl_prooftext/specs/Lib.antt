@@ -1,2 +1,4 @@
 pub mod ProofText
 pub mod KnownProof
+pub mod TextLength
+pub mod TextOutput
