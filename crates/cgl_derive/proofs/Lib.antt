@@ -20,3 +20,4 @@ pub mod KnownLaws
 pub mod KnownSplitLaws
 pub mod KnownKnapsackLaws
 pub mod KnownBookLaws
+pub mod KnownSharingLaws
