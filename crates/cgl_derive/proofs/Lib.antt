@@ -21,3 +21,4 @@ pub mod KnownSplitLaws
 pub mod KnownKnapsackLaws
 pub mod KnownBookLaws
 pub mod KnownSharingLaws
+pub mod SharingLaws

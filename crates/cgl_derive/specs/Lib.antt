@@ -15,3 +15,4 @@ pub mod KnownDerivations
 pub mod KnownSplits
 pub mod KnownKnapsacks
 pub mod KnownBooks
+pub mod KnownSharing
