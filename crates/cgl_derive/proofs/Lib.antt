@@ -22,3 +22,4 @@ pub mod KnownKnapsackLaws
 pub mod KnownBookLaws
 pub mod KnownSharingLaws
 pub mod SharingLaws
+pub mod MoreShared

@@ -26,7 +26,7 @@ pub use known::{
 pub use laws::{
     books, coefficient_laws, divisors, knapsacks, lists, rounding, soundness, steps, weighted_sums,
 };
-pub use sharing_laws::sharing;
+pub use sharing_laws::{more_shared, sharing};
 pub use sharing_rows::known_sharing;
 pub use step::{Derivation, Knap, Lin, Ref, Round, Split, Step};
 pub use sum::Sum;
