@@ -1,0 +1,8 @@
+//! The words of the command line.
+#![tactic(auto)]
+
+mod asked;
+mod option;
+mod reading;
+
+pub use asked::{Check, Command, Cut, Generators, Show, Start, Upgrade, command_of};
