@@ -1,10 +1,10 @@
 -- What words that are written out ask for, computed.
 use Rattle.std.proofs.Common.{◌≡◌, List, [], ◌∷◌, Option, Some, None, true, refl, codes}
 use Rattle.std.specs.Bool.{⊤}
-use Rattle.cgl_words.specs.CommandLine.{Text, CommandWords, CutCommand, CheckCommand, ShowCommand, UpgradeCommand, AtPoint, command_of, known, placed, used, opened, step, are_two, are_three, are_four, cut_of, check_of, show_of, upgrade_of, asked}
+use Rattle.cgl_words.specs.CommandLine.{Text, CommandWords, CutCommand, CheckCommand, ShowCommand, UpgradeCommand, AtPoint, command_of, known, placed, used, opened, step, are_two, are_three, are_four, cut_of, check_of, show_of, upgrade_of, asked, with_one}
 
 unfoldable command_line : ⊤
-unfolding known placed used opened step are_two are_three are_four cut_of check_of show_of upgrade_of asked
+unfolding known placed used opened step are_two are_three are_four cut_of check_of show_of upgrade_of asked with_one
 command_line = tt
 
 abbrev cut : List Text → Option CommandWords

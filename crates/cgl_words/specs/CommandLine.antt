@@ -113,10 +113,28 @@ start_name (AtPoint name) = name
 pub record Chosen : Type 0 where
   pub round : Bool
 
--- all that are built, where none are named
+-- the words between the commas of a list
+abbrev pub lengthened : ℕ → List Text → List Text
+lengthened byte [] = (byte ∷ []) ∷ []
+lengthened byte (part ∷ parts) = (byte ∷ part) ∷ parts
+
+abbrev pub parts : Text → List Text
+parts [] = [] ∷ []
+parts (byte ∷ rest) = if nat_eq byte 44 then [] ∷ parts rest else lengthened byte (parts rest)
+
+-- one more generator, by its word, each at most once
+unfoldable pub with_one : Chosen → Text → Option Chosen
+with_one c word = if bytes_eq word (codes "round") && not c.round then Some (record c { round = true }) else None
+
+abbrev pub with_each : Option Chosen → List Text → Option Chosen
+with_each None words = None
+with_each (Some c) [] = Some c
+with_each (Some c) (word ∷ words) = with_each (with_one c word) words
+
+-- all that are built, where no list is given
 abbrev pub chosen : Option Text → Option Chosen
 chosen None = Some (record { round = true })
-chosen (Some list) = if bytes_eq list (codes "round") then Some (record { round = true }) else None
+chosen (Some list) = with_each (Some (record { round = false })) (parts list)
 
 pub record CutWords : Type 0 where
   pub model : Text

@@ -1,7 +1,8 @@
 ghost use Rattle.std.specs.Prelude.{◌≡◌, Some, option_map, map, string_bytes};
-ghost use Rattle.cgl_words.specs.CommandLine.{start_name, is_name, are_two, are_three, are_four, chosen, cut_of, check_of, show_of, upgrade_of, asked, command_of};
+ghost use Rattle.cgl_words.specs.CommandLine.{start_name, is_name, are_two, are_three, are_four, with_one, with_each, parts, chosen, cut_of, check_of, show_of, upgrade_of, asked, command_of};
 ghost use Rattle.cgl_words.specs.Meant.{start_of, chosen_of, maybe, reading_of, meant};
 
+use crate::option::first_part;
 use crate::reading::{Reading, Turn};
 
 /// The file that says where the columns stand.
@@ -26,6 +27,32 @@ impl<'a> Start<'a> {
 #[derive(Clone, Copy)]
 pub struct Generators {
     pub round: bool,
+}
+
+impl Generators {
+    /// With one more, by its word.
+    #[tactic(auto, unfolding(crate::specs::CommandLine::with_one))]
+    fn with_one(self, word: &str) -> Option<Generators>
+        ensures { option_map chosen_of result ≡ with_one (chosen_of self) word.now }
+    {
+        if word == "round" && !self.round {
+            Some(Generators { round: true })
+        } else {
+            None
+        }
+    }
+
+    /// With each of a list.
+    fn with_each(self, list: &str) -> Option<Generators>
+        ensures { option_map chosen_of result ≡ with_each (Some (chosen_of self)) (parts list.now) }
+    {
+        let (word, rest) = first_part(list);
+        let chosen = self.with_one(word)?;
+        match rest {
+            None => Some(chosen),
+            Some(rest) => chosen.with_each(rest),
+        }
+    }
 }
 
 /// The files that a cut is of, and what makes the cuts.
@@ -102,13 +129,7 @@ fn chosen(list: Option<&str>) -> Option<Generators>
 {
     match list {
         None => Some(Generators { round: true }),
-        Some(list) => {
-            if list == "round" {
-                Some(Generators { round: true })
-            } else {
-                None
-            }
-        }
+        Some(list) => Generators { round: false }.with_each(list),
     }
 }
 

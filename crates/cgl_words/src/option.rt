@@ -1,5 +1,5 @@
-ghost use Rattle.std.specs.Prelude.{◌≡◌, option_map};
-ghost use Rattle.cgl_words.specs.CommandLine.{is_dashed, known, halves};
+ghost use Rattle.std.specs.Prelude.{◌≡◌, ◌<◌, [], ◌∷◌, IfNone, IfSome, length, option_map};
+ghost use Rattle.cgl_words.specs.CommandLine.{is_dashed, known, halves, parts};
 ghost use Rattle.cgl_words.specs.Meant.{known_of, maybe};
 
 /// The options that a command may have.
@@ -26,13 +26,26 @@ pub fn option_named(name: &str) -> Option<Known>
     }
 }
 
-/// What stands before the first `=`, and what stands behind it.
-pub fn halves(word: &str) -> (&str, Option<&str>)
-    ensures name { result.0.now ≡ (halves 61 word.now).front }
-    ensures value { maybe result.1 ≡ (halves 61 word.now).back }
+/// What stands before the first `at`, and what stands behind it.
+pub fn halves(text: &str, at: char) -> (&str, Option<&str>)
+    requires { at < 128 }
+    ensures front { result.0.now ≡ (halves at text.now).front }
+    ensures back { maybe result.1 ≡ (halves at text.now).back }
 {
-    match word.split_once('=') {
-        Some((name, value)) => (name, Some(value)),
-        None => (word, None),
+    match text.split_once(at) {
+        Some((front, back)) => (front, Some(back)),
+        None => (text, None),
+    }
+}
+
+/// The first word of a list, and what stands behind its comma.
+pub fn first_part(list: &str) -> (&str, Option<&str>)
+    ensures one { IfNone result.1 (parts list.now ≡ result.0.now ∷ []) }
+    ensures more { IfSome result.1 (λ rest. parts list.now ≡ result.0.now ∷ parts rest.now) }
+    ensures shorter { IfSome result.1 (λ rest. length rest.now < length list.now) }
+{
+    match list.split_once(',') {
+        Some((word, rest)) => (word, Some(rest)),
+        None => (list, None),
     }
 }

@@ -89,7 +89,7 @@ impl<'a> Reading<'a> {
     fn opened(self, word: &'a str) -> Option<Reading<'a>>
         ensures { option_map reading_of result ≡ opened (reading_of self.entry) word.now }
     {
-        let (name, attached) = halves(word);
+        let (name, attached) = halves(word, '=');
         let option = option_named(name)?;
         match attached {
             Some(value) => self.used(option, value),
