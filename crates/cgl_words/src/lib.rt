@@ -2,7 +2,9 @@
 #![tactic(auto)]
 
 mod asked;
+mod laws;
 mod option;
 mod reading;
 
 pub use asked::{Check, Command, Cut, Generators, Show, Start, Upgrade, command_of};
+pub use laws::known_words;
