@@ -1,0 +1,3 @@
+pub mod CommandLine
+pub mod KnownWords
+pub mod Meant
