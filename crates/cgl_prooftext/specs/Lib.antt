@@ -1,2 +1,3 @@
 pub mod ProofText
 pub mod KnownProof
+pub mod Records

@@ -4,6 +4,7 @@
 mod field;
 mod laws;
 mod print;
+mod record;
 mod reference;
 
 pub use laws::known_texts;
