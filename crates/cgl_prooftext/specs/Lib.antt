@@ -1,3 +1,5 @@
 pub mod ProofText
 pub mod KnownProof
 pub mod Records
+pub mod LineResult
+pub mod KnownLines

@@ -3,9 +3,11 @@
 
 mod field;
 mod laws;
+mod line_laws;
 mod print;
 mod record;
 mod reference;
 
 pub use laws::known_texts;
+pub use line_laws::known_lines;
 pub use print::proof_text;
