@@ -2,4 +2,5 @@ pub mod ProofText
 pub mod KnownProof
 pub mod Records
 pub mod LineResult
+pub mod Sizes
 pub mod KnownLines

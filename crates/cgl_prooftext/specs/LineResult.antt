@@ -1,6 +1,6 @@
 -- What a line of a proof file says, a line without its LF.
 use Rattle.std.specs.Prelude.{ℕ, zero, suc, ◌-◌, ◌^◌, ◌==◌, nat_lt, ℤ, pos, neg_ℤ, unsigned_abs, Bool, true, false, not, ◌&&◌, List, [], ◌∷◌, bytes_eq, codes, length, take, Option, Some, None, option_map, option_and_then, if◌then◌else◌}
-use Rattle.std.specs.List.{list_all, onto_first}
+use Rattle.std.specs.List.{before_first, list_all, onto_first}
 use Rattle.cgl_num.specs.NumberText.{is_digit, natural}
 use Rattle.cgl_model.specs.declared.linear.Ineq.{Ineq}
 use Rattle.cgl_model.specs.declared.places.End.{End}
@@ -21,10 +21,17 @@ pub data LineResult : Type 0 where
 
 -- ---- fields
 
+abbrev pub is_space : ℕ → Bool
+is_space b = b == 32
+
+-- the first field
+abbrev pub word_in : Text → Text
+word_in line = before_first is_space line
+
 -- each space ends a field, so that two in a row have an empty field between them
 abbrev pub fields_of : Text → List Text
 fields_of [] = [] ∷ []
-fields_of (b ∷ bytes) = if b == 32 then [] ∷ fields_of bytes else onto_first b (fields_of bytes)
+fields_of (b ∷ bytes) = if is_space b then [] ∷ fields_of bytes else onto_first b (fields_of bytes)
 
 -- what the first fields say, with those behind them; they are not of the form, or a count is too large
 pub data Parsed (A : Type 0) : Type 0 where

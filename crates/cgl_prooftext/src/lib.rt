@@ -4,9 +4,11 @@
 mod field;
 mod laws;
 mod line_laws;
+mod numbers;
 mod print;
 mod record;
 mod reference;
+mod words;
 
 pub use laws::known_texts;
 pub use line_laws::known_lines;
