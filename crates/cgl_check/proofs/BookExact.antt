@@ -1,5 +1,5 @@
 -- A book has no refusal exactly where it is right.
-use Rattle.std.proofs.Common.{◌≡◌, ◌↔◌, ℕ, zero, suc, ◌+◌, List, [], ◌∷◌, ◌++◌, take, Option, Some, None, IfSome, Bool, true, false, cond, refl, sym, ap, ◌∙◌, subst}
+use Rattle.std.proofs.Common.{◌≡◌, ◌↔◌, ℕ, zero, suc, ◌+◌, List, [], ◌∷◌, ◌++◌, take, Option, Some, None, Bool, true, false, cond, refl, sym, ap, ◌∙◌, subst}
 use Rattle.std.specs.Prelude.{slice_get}
 use Rattle.std.specs.List.{AllByRecursion}
 use Rattle.std.proofs.lemmas.List.{append_assoc, append-nil}
@@ -9,7 +9,10 @@ use Rattle.cgl_derive.specs.declared.book.Book.{Book}
 use Rattle.cgl_derive.specs.Books.{BookIsRight, Entry, HaveColumns, inequalities}
 use Rattle.cgl_derive.specs.Derives.{AreColumns, Derives}
 use Rattle.cgl_check.specs.declared.path.Reject.{Reject}
-use Rattle.cgl_check.specs.Accepted.{EntryPlace, Cut, IsAccepted, Refusal, Shared, cut_refusal, entry_failure, first_refusal, or_next, refused, shared_refusal}
+use Rattle.cgl_check.specs.declared.refusal.BookRefusal.{BookRefusal}
+use Rattle.cgl_check.specs.declared.refusal.EntryPlace.{EntryPlace}
+use Rattle.cgl_check.specs.declared.refusal.EntryPlace.TheVariants.{Cut, Shared}
+use Rattle.cgl_check.specs.Accepted.{IsAccepted, cut_refusal, entry_failure, or_next, refused, shared_refusal}
 use Rattle.cgl_check.specs.FirstFailure.{bad_ref, first_failure}
 use Rattle.cgl_check.specs.Places.{at_list}
 use Rattle.cgl_check.specs.Tests.{AreOverColumns, are_columns}
@@ -17,19 +20,19 @@ use Rattle.cgl_check.proofs.TestLaws.{columns_hold, columns_pass}
 use Rattle.cgl_check.proofs.Ground.{BitsAreTested, Ground, NoneBeyond}
 use Rattle.cgl_check.proofs.Exact.{all_push, exact}
 
-next_none : (a b : Option Refusal) → or_next a b ≡ None → (a ≡ None) × (b ≡ None)
+pub next_none : (a b : Option BookRefusal) → or_next a b ≡ None → (a ≡ None) × (b ≡ None)
 next_none None b e = (refl, e)
 next_none (Some r) b e = cc
 
-none_next : (a b : Option Refusal) → a ≡ None → b ≡ None → or_next a b ≡ None
+none_next : (a b : Option BookRefusal) → a ≡ None → b ≡ None → or_next a b ≡ None
 none_next None b e f = f
 none_next (Some r) b e f = cc
 
-refused_none : (entry : EntryPlace) (failure : Option Reject) → refused entry failure ≡ None → failure ≡ None
+pub refused_none : (entry : EntryPlace) (failure : Option Reject) → refused entry failure ≡ None → failure ≡ None
 refused_none entry None e = refl
 refused_none entry (Some r) e = cc
 
-if_none : (b : Bool) (failure : Option Reject) (r : Reject) → cond b failure (Some r) ≡ None → (b ≡ true) × (failure ≡ None)
+pub if_none : (b : Bool) (failure : Option Reject) (r : Reject) → cond b failure (Some r) ≡ None → (b ≡ true) × (failure ≡ None)
 if_none true failure r e = (refl, e)
 if_none false failure r e = cc
 

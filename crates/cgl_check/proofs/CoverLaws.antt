@@ -7,7 +7,6 @@ use Rattle.cgl_model.specs.declared.linear.Ineq.{Ineq}
 use Rattle.cgl_model.specs.FormList.{FormList}
 use Rattle.cgl_model.specs.IntegerForm.{forms_of}
 use Rattle.cgl_derive.specs.declared.step.Knap.{Knap}
-use Rattle.cgl_derive.specs.declared.step.Ref.{Ref}
 use Rattle.cgl_derive.specs.declared.step.Step.{Step, out-Step}
 use Rattle.cgl_derive.specs.declared.step.Step.TheOpen as step
 use Rattle.cgl_derive.specs.declared.step.Split.{Split}
@@ -143,3 +142,34 @@ pub split_covered : (scope : Scope) (frames : List Frame) (depth at left right q
     → CoversList scope (frames ++ record { step = at; branch = Right } ∷ []) (depth - 1) right → left ≤ q → right ≤ q → CoversSplit scope frames depth at q s
 split_covered scope frames depth at left right q s l r h k Left narrow some = list_wider scope (frames ++ record { step = at; branch = Left } ∷ []) (depth - 1) left q h l
 split_covered scope frames depth at left right q s l r h k Right narrow some = list_wider scope (frames ++ record { step = at; branch = Right } ∷ []) (depth - 1) right q k r
+
+-- ---- no table with fewer places
+
+pub least_table : (p cap : ℕ) (o : Option Ineq) (from : Ineq) → o ≡ Some from → small_capacity from ≡ Some cap → HasTable p o → cap + 1 ≤ p
+least_table p cap o from e small has =
+    let whole : HasTable p (Some from) = subst (HasTable p) e has in
+    let below : IsBelow p (Some cap) = subst (IsBelow p) small whole in
+    omega (arith, below)
+
+layer_within : (scope : Scope) (frames : List Frame) (depth at places : ℕ) (layer : Layer) → AreEntered scope.steps.now frames → CoversList scope frames depth places
+    → knap_at (steps_at scope.steps.now frames) at ≡ knap_in layer → CoversLayer scope frames depth at places layer
+layer_within scope frames depth at places (step.Lin lin) entered covers e = tt
+layer_within scope frames depth at places (step.Round round) entered covers e = tt
+layer_within scope frames depth at places (step.Split s) entered covers e = λ branch narrow some more own knap all size is.
+    let f : Frame = record { step = at; branch = branch } in
+    let P : List Frame → Type 0 = λ fs. AreEntered scope.steps.now fs → knap_at (steps_at scope.steps.now fs) own ≡ Some knap → HasTable places (meant_at scope fs own knap.from) in
+    subst P (sym (append_assoc frames (f ∷ []) more)) (λ a b. covers (f ∷ more) own knap a (omega (arith, some, size)) b) all is
+layer_within scope frames depth at places (step.Knap knap) entered covers e =
+    let P : List Frame → Type 0 = λ fs. AreEntered scope.steps.now fs → knap_at (steps_at scope.steps.now fs) at ≡ Some knap → HasTable places (meant_at scope fs at knap.from) in
+    subst P (append-nil frames) (λ a b. covers [] at knap a (omega arith) b) entered e
+
+-- what serves a list serves each of its steps
+pub step_covered : (scope : Scope) (frames : List Frame) (depth at places : ℕ) (s : Step) → AreEntered scope.steps.now frames → CoversList scope frames depth places
+    → slice_get (steps_at scope.steps.now frames) at ≡ Some s → CoversLayer scope frames depth at places (out-Step s)
+step_covered scope frames depth at places s entered covers e =
+    layer_within scope frames depth at places (out-Step s) entered covers (ap (option_and_then (λ t. knap_in (out-Step t))) e)
+
+pub whole_needed : (scope : Scope) (places : ℕ) → scope.forms.now ≡ forms_of scope.model.now → HasTables scope.model.now scope.shared.now scope.steps.now places → CoversList scope [] 64 places
+whole_needed scope places forms tables more own knap entered size e =
+    let P : FormList → Type 0 = λ f. HasTable places (meaning f.sides scope.shared.now (givens_at scope.steps.now more) (claims_at scope.steps.now more own) knap.from) in
+    subst P (sym forms) (tables more own knap entered size e)

@@ -11,7 +11,7 @@ use Rattle.cgl_derive.specs.KnownBooks.{beyond_book, circular_book, lacking_book
 use Rattle.cgl_derive.specs.KnownDerivations.{at_least, at_most_one, end_of_row, infeasible, one_column}
 use Rattle.cgl_derive.specs.KnownKnapsacks.{at_most, both_signs, by_knap, complemented, end_of_first, enough, four_weights, great_multiple, lifted_cover, lifted_too_far, one_of_two, turned}
 use Rattle.cgl_check.specs.Accepted.{IsAccepted}
-use Rattle.cgl_check.specs.Accepted.EntryPlace.{Cut, Shared}
+use Rattle.cgl_check.specs.declared.refusal.EntryPlace.TheVariants.{Cut, Shared}
 use Rattle.cgl_check.specs.FirstFailure.{failure_within}
 use Rattle.cgl_check.specs.KnownFailures.{FailsAt, Passes, step}
 use Rattle.cgl_check.specs.KnownRefusals.{IsRefused, cut_beyond, wrong_cut, wrong_twice}

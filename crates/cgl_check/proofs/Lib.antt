@@ -5,6 +5,7 @@ pub mod RoundExact
 pub mod KnapExact
 pub mod Exact
 pub mod BookExact
+pub mod BookWalkLaws
 pub mod SideNumberLaws
 pub mod WalkLaws
 pub mod EndLaws

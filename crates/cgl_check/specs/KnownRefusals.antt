@@ -5,7 +5,8 @@ use Rattle.cgl_derive.specs.declared.book.Book.{Book}
 use Rattle.cgl_derive.specs.declared.step.Ref.TheVariants as by
 use Rattle.cgl_derive.specs.KnownBooks.{divided, of_three, taken}
 use Rattle.cgl_derive.specs.KnownDerivations.{contradiction, other_column}
-use Rattle.cgl_check.specs.Accepted.{EntryPlace, first_refusal}
+use Rattle.cgl_check.specs.declared.refusal.EntryPlace.{EntryPlace}
+use Rattle.cgl_check.specs.Accepted.{first_refusal}
 use Rattle.cgl_check.specs.KnownFailures.{Pairs}
 
 -- the first refusal of the book is of this entry, at this path of its derivation, and for this reason

@@ -1,5 +1,5 @@
 -- What a check works with, so that it takes no memory.
-use Rattle.std.specs.Prelude.{◌≡◌, ℕ, ◌≤◌, ◌<◌, List, length, Option, Some, None, OnSome}
+use Rattle.std.specs.Prelude.{◌≡◌, ℕ, ◌≤◌, ◌<◌, List, length, Option, Some, None}
 use Rattle.cgl_model.specs.declared.linear.Ineq.{Ineq}
 use Rattle.cgl_model.specs.declared.mip.Model.{Model}
 use Rattle.cgl_model.specs.IntegerForm.{forms_of}
@@ -29,6 +29,10 @@ abbrev pub HasTables : Model → List Ineq → List Step → ℕ → Type 0
 HasTables m shared steps places =
     (frames : List Frame) (own : ℕ) (knap : Knap) → AreEntered steps frames → length frames ≤ 64 → knap_at (steps_at steps frames) own ≡ Some knap
     → HasTable places (meaning (forms_of m).sides shared (givens_at steps frames) (claims_at steps frames own) knap.from)
+
+-- no table of fewer places serves them
+abbrev pub IsLeastTable : Model → List Ineq → List Step → ℕ → Type 0
+IsLeastTable m shared steps places = (others : ℕ) → HasTables m shared steps others → places ≤ others
 
 pub record IsRoomFor (m : Model) (shared : List Ineq) (steps : List Step) (room : Room) : Type 0 where
   pub columns : room.columns ≡ length m.cols

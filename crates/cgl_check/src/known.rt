@@ -9,7 +9,7 @@ ghost use Rattle.cgl_derive.specs.KnownDerivations.{at_least, at_most_one, by_ca
 ghost use Rattle.cgl_derive.specs.KnownKnapsacks.{at_most, both_signs, by_knap, complemented, end_of_first, enough, four_weights, great_multiple, lifted_cover, lifted_too_far, one_of_two, turned};
 ghost use Rattle.cgl_derive.specs.Layers.{derivation};
 ghost use Rattle.cgl_check.specs.Accepted.{IsAccepted};
-ghost use Rattle.cgl_check.specs.Accepted.EntryPlace.{Cut, Shared as OfShared};
+ghost use Rattle.cgl_check.specs.declared.refusal.EntryPlace.TheVariants.{Cut, Shared as OfShared};
 ghost use Rattle.cgl_check.specs.declared.path.Branch.TheVariants.{Left};
 ghost use Rattle.cgl_check.specs.KnownFailures.{FailsAt, Passes, right, step};
 ghost use Rattle.cgl_check.specs.KnownRefusals.{IsRefused, cut_beyond, wrong_cut, wrong_twice};

@@ -1,10 +1,10 @@
 //! How large a knapsack table the steps of a derivation need.
 
-ghost use Rattle.std.specs.Prelude.{◌≡◌, [], ◌∷◌, ◌++◌, ◌+◌, length, slice_get, Some};
+ghost use Rattle.std.specs.Prelude.{◌≡◌, ℕ, [], ◌∷◌, ◌++◌, ◌+◌, ◌≤◌, length, slice_get, Some};
 ghost use Rattle.cgl_model.specs.IntegerForm.{forms_of};
 ghost use Rattle.cgl_derive.specs.declared.step.Step.{out-Step};
 ghost use Rattle.cgl_check.specs.Covered.{CoversLayer, CoversList, CoversSplit};
-ghost use Rattle.cgl_check.specs.Room.{HasTable, HasTables};
+ghost use Rattle.cgl_check.specs.Room.{HasTable, HasTables, IsLeastTable};
 ghost use Rattle.cgl_check.specs.Walk.{AreEntered, HasNarrowGivens, meant_at, split_at, steps_at};
 
 use crate::conditions::{is_wide_next, is_wide_number};
@@ -18,7 +18,8 @@ use cgl_derive::{Knap, Split, Step};
 /// The places that a knapsack step takes.
 fn knap_places(scope: &Scope<'_>, frames: &[Frame], at: usize, knap: &Knap) -> usize
     requires { AreEntered scope.now.steps.now frames.now }
-    ensures { HasTable result (meant_at scope.now frames.now at knap.now.from) }
+    ensures covered { HasTable result (meant_at scope.now frames.now at knap.now.from) }
+    ensures least { (places : ℕ) → HasTable places (meant_at scope.now frames.now at knap.now.from) → result ≤ places }
 {
     let Some(from) = meant(scope, frames, at, knap.from) else {
         return 0;
@@ -42,6 +43,7 @@ fn step_places(
     requires depth { depth + length frames.old ≡ 64 }
     requires step { slice_get (steps_at scope.now.steps.now frames.old) at ≡ Some step.now }
     ensures covered { CoversLayer scope.now frames.old depth at result (out-Step step.now) }
+    ensures least { (places : ℕ) → CoversLayer scope.now frames.old depth at places (out-Step step.now) → result ≤ places }
     ensures frames { frames.new ≡ frames.old }
 {
     match step {
@@ -65,6 +67,7 @@ fn split_places(
     requires depth { depth + length frames.old ≡ 64 }
     requires split { split_at (steps_at scope.now.steps.now frames.old) at ≡ Some split.now }
     ensures covered { CoversSplit scope.now frames.old depth at result split.now }
+    ensures least { (places : ℕ) → CoversSplit scope.now frames.old depth at places split.now → result ≤ places }
     ensures frames { frames.new ≡ frames.old }
 {
     if depth == 0 {
@@ -96,6 +99,7 @@ fn branch_places(
     requires split { split_at (steps_at scope.now.steps.now frames.old) at ≡ Some split.now }
     requires narrow { HasNarrowGivens split.now }
     ensures covered { CoversList scope.now (frames.old ++ record { step = at; branch = branch } ∷ []) depth result }
+    ensures least { (places : ℕ) → CoversList scope.now (frames.old ++ record { step = at; branch = branch } ∷ []) depth places → result ≤ places }
     ensures frames { frames.new ≡ frames.old }
 {
     let outer = frames.len();
@@ -115,6 +119,7 @@ fn list_places(scope: &Scope<'_>, frames: &mut Frames, depth: usize, steps: &[St
     requires depth { depth + length frames.old ≡ 64 }
     requires steps { steps_at scope.now.steps.now frames.old ≡ steps.now }
     ensures covered { CoversList scope.now frames.old depth result }
+    ensures least { (places : ℕ) → CoversList scope.now frames.old depth places → result ≤ places }
     ensures frames { frames.new ≡ frames.old }
 {
     let mut places = 0;
@@ -125,10 +130,11 @@ fn list_places(scope: &Scope<'_>, frames: &mut Frames, depth: usize, steps: &[St
     places
 }
 
-/// The places of a table that serves each knapsack step of a derivation.
+/// The places of the least table that serves each knapsack step of a derivation.
 pub fn places(scope: &Scope<'_>) -> usize
     requires { scope.now.forms.now ≡ forms_of scope.now.model.now }
-    ensures { HasTables scope.now.model.now scope.now.shared.now scope.now.steps.now result }
+    ensures covered { HasTables scope.now.model.now scope.now.shared.now scope.now.steps.now result }
+    ensures least { IsLeastTable scope.now.model.now scope.now.shared.now scope.now.steps.now result }
 {
     let mut frames = Frames::new();
     list_places(scope, &mut frames, 64, scope.steps)

@@ -1,4 +1,4 @@
-ghost use Rattle.std.specs.Prelude.{◌≡◌, [], ◌<◌, ◌^◌, length, IfErr, IfOk, OnErr, OnOk, None, Some};
+ghost use Rattle.std.specs.Prelude.{◌≡◌, ◌⊎◌, [], ◌<◌, ◌^◌, length, IfErr, IfOk, OnErr, OnOk, None, Some};
 ghost use Rattle.cgl_model.specs.Feasible.{IsFeasible};
 ghost use Rattle.cgl_model.specs.Inequality.{Meets};
 ghost use Rattle.cgl_model.specs.IntegerForm.{forms_of};
@@ -7,7 +7,7 @@ ghost use Rattle.cgl_derive.specs.declared.step.Derivation.{out-Derivation};
 ghost use Rattle.cgl_derive.specs.Derives.{Derives};
 ghost use Rattle.cgl_derive.specs.Soundness.{AreMet};
 ghost use Rattle.cgl_check.specs.FirstFailure.{first_failure};
-ghost use Rattle.cgl_check.specs.Room.{IsRoomFor};
+ghost use Rattle.cgl_check.specs.Room.{IsLeastTable, IsRoomFor};
 ghost use Rattle.cgl_check.specs.Tests.{AreOverColumns};
 
 use crate::checker::list_failure;
@@ -56,7 +56,26 @@ fn table(alloc: Global, places: usize) -> Result<Vec<i128>, Memory>
 }
 
 impl Work {
-    /// What a check of this derivation from the model and the shared inequalities works with.
+    /// What a check of derivations without knapsack steps works with.
+    ///
+    /// # Errors
+    ///
+    /// `Memory` where memory is refused, and for no other cause.
+    pub fn bare(alloc: Global, m: &Model) -> Result<Work, Memory>
+        requires { length m.now.cols < 2 ^ 32 }
+        ensures { IfOk result (λ w. w ≡ record { columns = length m.now.cols; places = 0 }) }
+    {
+        let sum = Sum::new(alloc, m.cols.as_slice().len() as u32)?;
+        Ok(Work {
+            space: Space {
+                sum,
+                table: Vec::new(alloc),
+            },
+            frames: Frames::new(),
+        })
+    }
+
+    /// What a check of this derivation from the model and the shared inequalities works with, and no more.
     ///
     /// # Errors
     ///
@@ -70,7 +89,32 @@ impl Work {
     ) -> Result<Work, Memory>
         requires columns { length m.now.cols < 2 ^ 32 }
         requires forms { forms.now ≡ forms_of m.now }
-        ensures { IfOk result (λ w. IsRoomFor m.now shared.now (out-Derivation d.now).steps w) }
+        ensures room { IfOk result (λ w. IsRoomFor m.now shared.now (out-Derivation d.now).steps w) }
+        ensures least { IfOk result (λ w. IsLeastTable m.now shared.now (out-Derivation d.now).steps w.places) }
+    {
+        let mut work = Work::bare(alloc, m)?;
+        work.fit(alloc, m, forms, shared, d)?;
+        Ok(work)
+    }
+
+    /// Makes it serve a check of one derivation more: where that needs a larger knapsack table, it gets one of the size.
+    ///
+    /// # Errors
+    ///
+    /// `Memory` where memory is refused, and for no other cause; it is then as it was.
+    pub fn fit(
+        &mut self,
+        alloc: Global,
+        m: &Model,
+        forms: &Forms,
+        shared: &[Ineq],
+        d: &Derivation,
+    ) -> Result<(), Memory>
+        requires columns { self.old.columns ≡ length m.now.cols }
+        requires forms { forms.now ≡ forms_of m.now }
+        ensures room { OnOk result (IsRoomFor m.now shared.now (out-Derivation d.now).steps self.new) }
+        ensures least { OnOk result ((self.new.places ≡ self.old.places) ⊎ IsLeastTable m.now shared.now (out-Derivation d.now).steps self.new.places) }
+        ensures err { OnErr result (self.new ≡ self.old) }
     {
         let scope = Scope {
             model: m,
@@ -78,12 +122,11 @@ impl Work {
             shared,
             steps: d.steps.as_slice(),
         };
-        let sum = Sum::new(alloc, m.cols.as_slice().len() as u32)?;
-        let table = table(alloc, places(&scope))?;
-        Ok(Work {
-            space: Space { sum, table },
-            frames: Frames::new(),
-        })
+        let places = places(&scope);
+        if places > self.space.table.len() {
+            self.space.table = table(alloc, places)?;
+        }
+        Ok(())
     }
 }
 

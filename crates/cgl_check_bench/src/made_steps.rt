@@ -2,8 +2,8 @@ ghost use Rattle.std.specs.Prelude.{ℕ, ◌≤◌, ◌<◌, ◌+◌, OnSome};
 ghost use Rattle.cgl_model.specs.Rising.{IsAboveAll};
 
 use crate::made_model::ROWS;
-use cgl_derive::{Derivation, Lin, Ref, Step};
-use cgl_model::{End, Ineq, Place, Terms};
+use cgl_derive::{Book, Derivation, Lin, Ref, Step};
+use cgl_model::{End, Ineq, Place, Seq, Terms};
 use sqlite_items::Items;
 use std::alloc::Global;
 
@@ -87,4 +87,43 @@ pub fn derivation(alloc: Global, sums: u32) -> Option<Derivation> {
 pub fn cut(alloc: Global, sums: u32) -> Option<Ineq> {
     let last = sums.checked_sub(1)?;
     claim(alloc, first_row(last))
+}
+
+/// A sum alone, with what it claims.
+fn summed(alloc: Global, row: u32) -> Option<(Ineq, Derivation)>
+    requires { row ≤ 499 }
+{
+    let mut steps = Items::new(alloc);
+    steps.push(sum(alloc, row)?).ok()?;
+    Some((claim(alloc, row)?, Derivation { steps }))
+}
+
+/// What the first sum claims, taken from the first inequality that is shared.
+fn taken(alloc: Global) -> Option<(Ineq, Derivation)> {
+    let mut refs = Items::new(alloc);
+    refs.push((Ref::Shared(0), 1)).ok()?;
+    let mut steps = Items::new(alloc);
+    let lin = Lin {
+        refs,
+        q: 1,
+        claim: claim(alloc, 0)?,
+    };
+    steps.push(Step::Lin(lin)).ok()?;
+    Some((claim(alloc, 0)?, Derivation { steps }))
+}
+
+/// A right book: it shares what the first sum claims, and has so many cuts of one sum each before one that is taken from
+/// what is shared.
+pub fn book(alloc: Global, cuts: u32) -> Option<Book> {
+    let mut shared = Vec::new(alloc);
+    shared.push(summed(alloc, 0)?).ok()?;
+    let mut entries = Vec::new(alloc);
+    for at in 0..cuts {
+        entries.push(summed(alloc, first_row(at))?).ok()?;
+    }
+    entries.push(taken(alloc)?).ok()?;
+    Some(Book {
+        shared: Seq::from_vec(shared),
+        cuts: Seq::from_vec(entries),
+    })
 }

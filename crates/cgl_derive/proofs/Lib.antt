@@ -20,3 +20,6 @@ pub mod KnownLaws
 pub mod KnownSplitLaws
 pub mod KnownKnapsackLaws
 pub mod KnownBookLaws
+pub mod KnownSharingLaws
+pub mod SharingLaws
+pub mod MoreShared

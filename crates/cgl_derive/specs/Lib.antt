@@ -5,6 +5,9 @@ pub mod Derives
 pub mod KnapsackLists
 pub mod Layers
 pub mod Books
+pub mod Dangling
+pub mod PlainSteps
+pub mod SharedBook
 pub mod Rounding
 pub mod Soundness
 pub mod Totals
@@ -12,3 +15,4 @@ pub mod KnownDerivations
 pub mod KnownSplits
 pub mod KnownKnapsacks
 pub mod KnownBooks
+pub mod KnownSharing

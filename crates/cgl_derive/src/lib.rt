@@ -8,6 +8,8 @@ mod columns;
 mod division;
 mod known;
 mod laws;
+mod sharing_laws;
+mod sharing_rows;
 mod step;
 mod sum;
 mod total;
@@ -24,6 +26,8 @@ pub use known::{
 pub use laws::{
     books, coefficient_laws, divisors, knapsacks, lists, rounding, soundness, steps, weighted_sums,
 };
+pub use sharing_laws::{more_shared, sharing};
+pub use sharing_rows::known_sharing;
 pub use step::{Derivation, Knap, Lin, Ref, Round, Split, Step};
 pub use sum::Sum;
 pub use total::Total;

@@ -1,5 +1,5 @@
 -- The text of a known proof.
-use Rattle.std.proofs.Common.{◌≡◌, [], ◌∷◌, ◌++◌, codes, flat_map, pos, refl, ap, ◌∙◌}
+use Rattle.std.proofs.Common.{◌≡◌, List, [], ◌∷◌, ◌++◌, codes, flat_map, pos, refl, ap, ◌∙◌}
 use Rattle.std.proofs.lemmas.List.{append-nil}
 use Rattle.std.specs.Fmt.{digits, decimal}
 use Rattle.cgl_derive.specs.declared.step.Lin.{Lin}
@@ -7,10 +7,14 @@ use Rattle.cgl_derive.specs.declared.step.Step.{Step, roll-Step, out-roll-Step}
 use Rattle.cgl_derive.specs.declared.step.Step.TheOpen as step
 use Rattle.cgl_derive.specs.declared.step.Split.{Split, roll-Split}
 use Rattle.cgl_derive.specs.declared.step.Derivation.{Derivation, roll-Derivation, out-roll-Derivation}
-use Rattle.cgl_prooftext.specs.ProofText.{Text, fields_text, line, terms_fields, ineq_fields, refs_fields, lin_text, round_text, knap_text, split_line, split_around, step_text, split_text, derivation_text, cut_text, proof_text, step_layer, derivation_layer, split_layer}
+use Rattle.cgl_prooftext.specs.ProofText.{Text, fields_text, line, terms_fields, ineq_fields, refs_fields, lin_text, round_text, knap_text, split_line, split_around, step_text, split_text, derivation_text, entry_text, entries_text, book_text, step_layer, derivation_layer, split_layer}
 use Rattle.cgl_derive.specs.declared.step.Step.TheFolds.{fold-roll-Split}
 use Rattle.cgl_derive.specs.Derives.{Layer}
-use Rattle.cgl_prooftext.specs.KnownProof.{KnownProof, KnownRound, KnownKnap, KnownReferences, known_cut, known_lin_left, known_lin_right, known_split, known_derivation, one_step}
+use Rattle.cgl_derive.specs.Layers.{derivation, rolled}
+use Rattle.cgl_derive.specs.KnownBooks.{at_most_one_of_three, at_most_one_of_two, divided, taken, without_last}
+use Rattle.cgl_derive.specs.declared.step.Ref.TheVariants as by
+use Rattle.cgl_model.specs.declared.linear.Ineq.{Ineq}
+use Rattle.cgl_prooftext.specs.KnownProof.{KnownBook, KnownEmptyBook, KnownProof, KnownRound, KnownKnap, KnownReferences, known_cut, known_lin_left, known_lin_right, known_split, known_derivation, one_step}
 use Rattle.cgl_prooftext.proofs.ProofTextLaws.{step_text_is, derivation_text_is, layer_text}
 
 roll_derivation : (d : step.Derivation-F Step Derivation Split) → derivation_text (roll-Derivation d) ≡ flat_map step_text d.steps
@@ -45,11 +49,15 @@ derivation_known =
     one_step_text (step.Split known_split) _ (roll_step_split known_split ∙ roll_split _ ∙ branches _ _ _ _ _ (one_step_text (step.Lin known_lin_left) _ (roll_lin known_lin_left ∙ left_line)) (one_step_text (step.Lin known_lin_right) _ (roll_lin known_lin_right ∙ right_line)))
 
 around : Text → Text
-around z = line (codes "cgl-proof") (codes "1" ∷ []) ++ line (codes "cuts") (decimal 1 ∷ []) ++ (line (codes "cut") (ineq_fields known_cut) ++ z ++ line (codes "qed") [] ++ []) ++ line (codes "end") []
+around z = line (codes "cgl-proof") (codes "1" ∷ []) ++ (line (codes "cuts") (decimal 1 ∷ []) ++ (line (codes "cut") (ineq_fields known_cut) ++ z ++ line (codes "qed") []) ++ []) ++ line (codes "end") []
 
 pub known_text : KnownProof
-unfolding around fields_text line terms_fields ineq_fields split_line cut_text proof_text digits
+unfolding around fields_text line terms_fields ineq_fields split_line entry_text entries_text book_text digits
 known_text = ap around derivation_known
+
+pub known_empty_book : KnownEmptyBook
+unfolding fields_text line entries_text book_text digits
+known_empty_book = refl
 
 pub known_round : KnownRound
 unfolding fields_text line terms_fields ineq_fields round_text digits
@@ -62,3 +70,35 @@ known_knap = refl
 pub known_references : KnownReferences
 unfolding digits
 known_references = refl
+
+-- ---- a book with a shared inequality
+
+roll_layer : (layer : Layer) → step_text (roll-Step layer) ≡ layer_text layer
+roll_layer layer = step_text_is (roll-Step layer) ∙ ap layer_text (out-roll-Step layer)
+
+roll_layers : (layers : List Layer) → flat_map step_text (rolled layers) ≡ flat_map layer_text layers
+roll_layers [] = refl
+roll_layers (layer ∷ layers) = ap (λ z. z ++ flat_map step_text (rolled layers)) (roll_layer layer) ∙ ap (λ z. layer_text layer ++ z) (roll_layers layers)
+
+layers_text : (layers : List Layer) → derivation_text (derivation layers) ≡ flat_map layer_text layers
+layers_text layers = roll_derivation (record { steps = rolled layers }) ∙ roll_layers layers
+
+entry_around : Text → Ineq → Text → Text
+entry_around word inequality steps = line word (ineq_fields inequality) ++ steps ++ line (codes "qed") []
+
+lemmas_around : Text → Text
+lemmas_around lemma = line (codes "lemmas") (decimal 1 ∷ []) ++ (entry_around (codes "lemma") at_most_one_of_three lemma ++ [])
+
+cuts_around : Text → Text → Text
+cuts_around first second = line (codes "cuts") (decimal 2 ∷ []) ++ (entry_around (codes "cut") at_most_one_of_three first ++ (entry_around (codes "cut") at_most_one_of_two second ++ []))
+
+book_around : Text → Text → Text → Text
+book_around lemma first second = line (codes "cgl-proof") (codes "2" ∷ []) ++ lemmas_around lemma ++ cuts_around first second ++ line (codes "end") []
+
+three_lists : (a b c d e f : Text) → a ≡ d → b ≡ e → c ≡ f → book_around a b c ≡ book_around d e f
+three_lists a b c d e f x y z = ap (λ t. book_around t b c) x ∙ ap (λ t. book_around d t c) y ∙ ap (λ t. book_around d e t) z
+
+pub known_book : KnownBook
+unfolding entry_around lemmas_around cuts_around book_around fields_text line terms_fields ineq_fields refs_fields lin_text round_text entry_text entries_text book_text digits
+known_book =
+    three_lists _ _ _ _ _ _ (layers_text (divided ∷ [])) (layers_text (taken (by.Shared 0) ∷ [])) (layers_text (taken (by.Shared 0) ∷ without_last ∷ []))

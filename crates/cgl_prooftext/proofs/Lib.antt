@@ -1,2 +1,3 @@
 pub mod ProofTextLaws
+pub mod LongerLaws
 pub mod KnownText

@@ -1,10 +1,7 @@
 -- Laws of texts of proofs.
-use Rattle.std.proofs.Common.{◌≡◌, ℕ, List, [], ◌∷◌, ◌++◌, map, flat_map, refl, sym, ap, ◌∙◌, ◌+◌, ◌<◌, length, take, get_or, codes}
-use Rattle.std.specs.Fmt.{decimal}
-use Rattle.cgl_model.specs.declared.linear.Ineq.{Ineq}
+use Rattle.std.proofs.Common.{◌≡◌, List, [], ◌∷◌, ◌++◌, map, flat_map, refl, sym, ap, ◌∙◌}
 use Rattle.std.proofs.lemmas.List.{append-nil}
-use Rattle.cgl_text.specs.Growth.{Grown, Grows}
-use Rattle.cgl_text.specs.GrowthLaws.{flat_map_append, flat_map_more, grows_nothing, grows_then, grows_as}
+use Rattle.cgl_text.specs.GrowthLaws.{flat_map_append}
 use Rattle.cgl_derive.specs.declared.step.Lin.{Lin}
 use Rattle.cgl_derive.specs.declared.step.Round.{Round}
 use Rattle.cgl_derive.specs.declared.step.Knap.{Knap}
@@ -16,7 +13,7 @@ use Rattle.cgl_derive.specs.declared.step.Step.TheFolds.{fold_out-Step, fold_out
 use Rattle.cgl_derive.specs.declared.step.Split.{Split, out-Split}
 use Rattle.cgl_derive.specs.declared.step.Derivation.{Derivation, out-Derivation}
 use Rattle.cgl_derive.specs.Derives.{Layer}
-use Rattle.cgl_prooftext.specs.ProofText.{Text, fields_text, line, lin_text, round_text, knap_text, split_line, split_around, step_layer, derivation_layer, split_layer, step_text, split_text, derivation_text, ineq_fields, cut_text, proof_text}
+use Rattle.cgl_prooftext.specs.ProofText.{Text, fields_text, line, lin_text, round_text, knap_text, split_line, split_around, step_layer, derivation_layer, split_layer, step_text, split_text, derivation_text}
 
 -- ---- fields
 
@@ -75,44 +72,3 @@ step_split s split is = step_text_is s ∙ ap layer_text (ap out-Step is ∙ ap 
 
 pub step_knap : (s : Step) (knap : Knap) → s ≡ variant.Knap knap → step_text s ≡ knap_text knap
 step_knap s knap is = step_text_is s ∙ ap layer_text (ap out-Step is ∙ ap out-Step (sym (rolls-Knap knap)) ∙ out-roll-Step _)
-
--- ---- what a text grows by
-
-pub no_fields : (a : Grown) → Grows (fields_text []) a a
-unfolding fields_text
-no_fields a = grows_nothing a
-
-pub field_grows : (x : Text) (a b c : Grown) → Grows (32 ∷ []) a b → Grows x b c → Grows (fields_text (x ∷ [])) a c
-field_grows x a b c space field = grows_as _ _ a c (sym (field_one x)) (grows_then (32 ∷ []) x a b c space field)
-
-pub fields_grow : (x y : List Text) (a b c : Grown) → Grows (fields_text x) a b → Grows (fields_text y) b c → Grows (fields_text (x ++ y)) a c
-fields_grow x y a b c first second = grows_as _ _ a c (sym (fields_append x y)) (grows_then (fields_text x) (fields_text y) a b c first second)
-
-pub line_grows : (word : Text) (fields : List Text) (a b c d : Grown) → Grows word a b → Grows (fields_text fields) b c → Grows (10 ∷ []) c d → Grows (line word fields) a d
-unfolding line
-line_grows word fields a b c d first middle end = grows_then _ _ a c d (grows_then word (fields_text fields) a b c first middle) end
-
--- the next item of a list
-pub more_fields : {A : Type 0} (f : A → List Text) (xs : List A) (i : ℕ) (d : A) (a b c : Grown) → i < length xs → Grows (fields_text (flat_map f (take i xs))) a b → Grows (fields_text (f (get_or xs i d))) b c → Grows (fields_text (flat_map f (take (i + 1) xs))) a c
-more_fields f xs i d a b c h before here =
-    grows_as _ _ a c (ap fields_text (sym (flat_map_more f xs i d h))) (fields_grow (flat_map f (take i xs)) (f (get_or xs i d)) a b c before here)
-
-pub split_grows : (s : Split) (a b c d e f : Grown) → Grows (split_line (out-Split s).p (out-Split s).p0 (out-Split s).claim) a b → Grows (flat_map step_text (out-Derivation (out-Split s).left).steps) b c → Grows (codes "else\n") c d
-    → Grows (flat_map step_text (out-Derivation (out-Split s).right).steps) d e → Grows (codes "done\n") e f → Grows (split_text s) a f
-split_grows s a b c d e f head left middle right end =
-    let else_is = grows_as _ _ c d (sym (line_word (codes "else"))) middle in
-    let done_is = grows_as _ _ e f (sym (line_word (codes "done"))) end in
-    grows_as _ _ a f (sym (split_text_is s)) (grows_then _ _ a e f (grows_then _ _ a d e (grows_then _ _ a c d (grows_then _ _ a b c head left) else_is) right) done_is)
-
-pub cut_grows : (cut : Ineq × Derivation) (a b c d e f : Grown) → Grows (codes "cut") a b → Grows (fields_text (ineq_fields cut.0)) b c → Grows (10 ∷ []) c d → Grows (flat_map step_text (out-Derivation cut.1).steps) d e → Grows (codes "qed\n") e f → Grows (cut_text cut) a f
-unfolding cut_text
-cut_grows cut a b c d e f word fields end steps last =
-    let head = line_grows (codes "cut") (ineq_fields cut.0) a b c d word fields end in
-    let steps_are = grows_as _ _ d e (sym (derivation_text_is cut.1)) steps in
-    let qed_is = grows_as _ _ e f (sym (line_word (codes "qed"))) last in
-    grows_then _ _ a e f (grows_then _ _ a d e head steps_are) qed_is
-
-pub proof_grows : (cuts : List (Ineq × Derivation)) (a b c d e f : Grown) → Grows (codes "cgl-proof 1\ncuts") a b → Grows (fields_text (decimal (length cuts) ∷ [])) b c → Grows (10 ∷ []) c d → Grows (flat_map cut_text cuts) d e → Grows (codes "end\n") e f → Grows (proof_text cuts) a f
-unfolding proof_text line fields_text
-proof_grows cuts a b c d e f first count end items last =
-    grows_then _ _ a e f (grows_then _ _ a d e (grows_then _ _ a c d (grows_then _ _ a b c first count) end) items) last

@@ -1,4 +1,4 @@
--- A proof with a split, and its text.
+-- Known proofs, and their texts.
 use Rattle.std.specs.Prelude.{◌≡◌, pos, negsuc, [], ◌∷◌, codes, map}
 use Rattle.cgl_model.specs.declared.linear.Ineq.{Ineq}
 use Rattle.cgl_model.specs.declared.places.End.TheVariants.{Lower, Upper}
@@ -9,7 +9,9 @@ use Rattle.cgl_derive.specs.declared.step.Step.{Step, roll-Step}
 use Rattle.cgl_derive.specs.declared.step.Step.TheOpen as step
 use Rattle.cgl_derive.specs.declared.step.Split.{Split, roll-Split}
 use Rattle.cgl_derive.specs.declared.step.Derivation.{Derivation, roll-Derivation}
-use Rattle.cgl_prooftext.specs.ProofText.{knap_text, proof_text, ref_text, round_text}
+use Rattle.cgl_derive.specs.declared.book.Book.{Book}
+use Rattle.cgl_derive.specs.KnownBooks.{shared_book}
+use Rattle.cgl_prooftext.specs.ProofText.{book_text, knap_text, proof_text, ref_text, round_text}
 
 -- -x >= -1
 abbrev pub known_cut : Ineq
@@ -48,3 +50,14 @@ abbrev pub KnownReferences : Type 0
 KnownReferences =
     map ref_text (by.Side (Row 10 Lower) ∷ by.Side (Bound 2 Lower) ∷ by.Side (Bound 0 Upper) ∷ by.Step 7 ∷ by.Given 12 ∷ by.Shared 3 ∷ [])
     ≡ codes "r10L" ∷ codes "c2L" ∷ codes "c0U" ∷ codes "s7" ∷ codes "g12" ∷ codes "m3" ∷ []
+
+-- a division that two cuts take
+abbrev pub KnownBook : Type 0
+KnownBook =
+    book_text shared_book ≡ codes "cgl-proof 2\nlemmas 1\nlemma 3 0 -1 1 -1 2 -1 >= -1\nround 3 r1U 3 0 -1 1 -1 2 -1 >= -1\nqed\ncuts 2\ncut 3 0 -1 1 -1 2 -1 >= -1\nlin 1 1 m0 1 3 0 -1 1 -1 2 -1 >= -1\nqed\ncut 2 0 -1 1 -1 >= -1\nlin 1 1 m0 1 3 0 -1 1 -1 2 -1 >= -1\nlin 1 2 s0 1 c2L 1 2 0 -1 1 -1 >= -1\nqed\nend\n"
+
+abbrev pub empty_book : Book
+empty_book = record { shared = []; cuts = [] }
+
+abbrev pub KnownEmptyBook : Type 0
+KnownEmptyBook = book_text empty_book ≡ codes "cgl-proof 1\ncuts 0\nend\n"

@@ -4,3 +4,5 @@ pub mod Records
 pub mod LineResult
 pub mod Sizes
 pub mod KnownLines
+pub mod TextLength
+pub mod TextOutput

@@ -1,4 +1,4 @@
--- The text of proofs: for each cut its inequality and the steps that derive it, a line each.
+-- The text of a book: for each shared inequality and each cut the inequality and the steps that derive it, a line each.
 use Rattle.std.specs.Prelude.{ℕ, ℤ, List, [], ◌∷◌, ◌++◌, codes, flat_map, length}
 use Rattle.std.specs.Fmt.{decimal, signed_decimal}
 use Rattle.cgl_model.specs.declared.linear.Ineq.{Ineq}
@@ -17,6 +17,8 @@ use Rattle.cgl_derive.specs.declared.step.Step.TheOpen as step
 use Rattle.cgl_derive.specs.declared.step.Step.TheFolds.{fold-Step, fold-Derivation, fold-Split}
 use Rattle.cgl_derive.specs.declared.step.Split.{Split}
 use Rattle.cgl_derive.specs.declared.step.Derivation.{Derivation}
+use Rattle.cgl_derive.specs.declared.book.Book.{Book}
+use Rattle.cgl_derive.specs.Books.{Entry}
 
 abbrev pub Text : Type 0
 Text = List ℕ
@@ -109,8 +111,25 @@ derivation_text = fold-Derivation Text Text Text step_layer derivation_layer spl
 
 -- ---- the whole text
 
-unfoldable pub cut_text : Ineq × Derivation → Text
-cut_text cut = line (codes "cut") (ineq_fields cut.0) ++ derivation_text cut.1 ++ line (codes "qed") []
+-- an inequality behind this word, and the steps that derive it
+unfoldable pub entry_text : Text → Entry → Text
+entry_text word entry = line word (ineq_fields entry.0) ++ derivation_text entry.1 ++ line (codes "qed") []
 
-unfoldable pub proof_text : List (Ineq × Derivation) → Text
-proof_text cuts = line (codes "cgl-proof") (codes "1" ∷ []) ++ line (codes "cuts") (decimal (length cuts) ∷ []) ++ flat_map cut_text cuts ++ line (codes "end") []
+-- how many there are, behind one word, and each of them behind another
+unfoldable pub entries_text : Text → Text → List Entry → Text
+entries_text words word entries = line words (decimal (length entries) ∷ []) ++ flat_map (entry_text word) entries
+
+abbrev pub format_line : Text → Text
+format_line format = line (codes "cgl-proof") (format ∷ [])
+
+-- the format, and the shared inequalities: format 1 has none of them, and format 2 has some
+abbrev pub head_text : List Entry → Text
+head_text [] = format_line (codes "1")
+head_text (entry ∷ entries) = format_line (codes "2") ++ entries_text (codes "lemmas") (codes "lemma") (entry ∷ entries)
+
+unfoldable pub book_text : Book → Text
+book_text book = head_text book.shared ++ entries_text (codes "cuts") (codes "cut") book.cuts ++ line (codes "end") []
+
+-- of cuts alone
+abbrev pub proof_text : List Entry → Text
+proof_text cuts = book_text (record { shared = []; cuts = cuts })

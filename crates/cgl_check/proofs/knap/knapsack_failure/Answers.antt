@@ -25,7 +25,8 @@ pub returns-then-is_wide_total-clause-failure : goal.returns-then-is_wide_total-
 returns-then-is_wide_total-clause-failure c =
     let knap = c.args.knap.now in
     let rhs_fits : FitsSigned w128 knap.claim.rhs = search rules in
-    let wide = sym (rw (to_z-of_z w128 knap.claim.rhs rhs_fits) at c.if-is_wide_total.ensures ∙ ap (λ (ts : List Term). reaches (total_magnitude ts + unsigned_abs knap.claim.rhs)) c.as_slice-claim.ensures.value) in
+    let rhs_is = to_z-of_z w128 knap.claim.rhs rhs_fits in
+    let wide : reaches (total_magnitude knap.claim.terms + unsigned_abs knap.claim.rhs) ≡ true = cc (rhs_is, c.if-is_wide_total.ensures, c.as_slice-claim.ensures.value) in
     not_form c.args.m.now knap (ineq_of c.args.from) (wide_claim c.args.m.now (ineq_of c.args.from) knap.claim wide)
 
 pub returns-then-greatest-leftover-clause-failure : goal.returns-then-greatest-leftover-clause-failure

@@ -5,6 +5,7 @@ use Rattle.std.specs.Int.RustNames.{FitsSigned}
 use Rattle.std.proofs.lemmas.Int.{ints, to_z-of_z}
 use Rattle.cgl_model.specs.Inequality.{AreColumnsBelow}
 use Rattle.cgl_derive.specs.Derives.{AreColumns, parts_of}
+use Rattle.cgl_derive.specs.Totals.{is_wide_claim}
 use Rattle.cgl_check.specs.Tests.{is_claimed}
 use Rattle.cgl_check.specs.Walk.{meant_at, parts_in}
 use Rattle.cgl_check.proofs.TestLaws.{columns_hold, if_not, zero_above}
@@ -56,7 +57,7 @@ returns-in-Err-clause-failure c =
     let columns = sym (rw c.as_slice.ensures.value at c.if-not-are_columns.ensures.test) in
     let none = sym (rw c.as_slice-refs.ensures at c.if-has_negative.ensures) in
     let some = rw c.as_slice-refs.ensures at c.in-Ok.ensures.some in
-    let wide = rw q_is at c.in-Err.ensures.wide in
+    let wide : is_wide_claim lin.q lin.claim ≡ true = cc (q_is, c.in-Err.ensures.wide) in
     claim_too_wide m lin (parts_of means lin.refs) wide (parts_in means lin.refs) (parts_there means lin.refs some) ∙ head_passed m means lin columns none (zero_above lin.q positive)
 
 pub returns-in-Ok-true-clause-failure : goal.returns-in-Ok-true-clause-failure

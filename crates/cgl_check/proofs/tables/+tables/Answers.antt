@@ -1,12 +1,13 @@
-use Rattle.std.proofs.Common.{◌≡◌, ℕ, ◌+◌, ◌-◌, ◌<◌, ◌≤◌, List, [], ◌∷◌, ◌++◌, length, Some, refl, sym, ap, ◌∙◌, subst, rules, arith}
-use Rattle.std.specs.Prelude.{slice_get}
+use Rattle.std.proofs.Common.{◌≡◌, ℕ, ◌-◌, ◌<◌, ◌≤◌, List, [], ◌∷◌, ◌++◌, length, refl, sym, ap, ◌∙◌, subst, rules, arith}
 use Rattle.std.proofs.lemmas.List.{length_push}
-use Rattle.cgl_derive.specs.declared.step.Step.{Step, out-Step}
+use Rattle.cgl_derive.specs.declared.step.Step.{out-Step, out-roll-Step}
+use Rattle.cgl_derive.specs.declared.step.Step.TheVariants.{rolls-Knap}
 use Rattle.cgl_check.specs.declared.frames.Frame.{Frame}
-use Rattle.cgl_check.specs.declared.path.Branch.TheVariants.{Right}
+use Rattle.cgl_check.specs.declared.path.Branch.TheVariants.{Left, Right}
 use Rattle.cgl_check.specs.Covered.{CoversLayer, CoversList}
-use Rattle.cgl_check.specs.Walk.{AreEntered, steps_at}
-use Rattle.cgl_check.proofs.CoverLaws.{CoversSteps, covers_more, list_covered, split_covered, there_below}
+use Rattle.cgl_check.specs.Room.{HasTable}
+use Rattle.cgl_check.specs.Walk.{AreEntered, HasNarrowGivens, meant_at, steps_at}
+use Rattle.cgl_check.proofs.CoverLaws.{CoversSteps, covers_more, list_covered, split_covered, step_covered, there_below}
 use Rattle.cgl_check.proofs.WalkLaws.{branch_entered, branch_list, step_is}
 use Rattle.cgl_check.proofs.tables.+tables.Goals as goal
 
@@ -36,11 +37,39 @@ list_places-loop-at-preserved t c =
     let steps = c.args.steps.now in
     let here = step_is steps steps at s refl (omega arith) c.index-steps-at.is in
     let now = subst (λ (fs : List Frame). CoversLayer scope fs c.args.depth at c.step_places-more.result (out-Step s)) c.loop-at.invariant.frames c.step_places-more.ensures.covered in
+    let R : List Frame → Type 0 = λ fs. (places : ℕ) → CoversLayer scope fs c.args.depth at places (out-Step s) → c.step_places-more.result ≤ places in
+    let least = λ (same : c.loop-at.frames ≡ c.args.frames.now). subst R same c.step_places-more.ensures.least in
     record {
       covered = covers_more scope c.args.frames.now c.args.depth at c.loop-at.places c.step_places-more.result c.max-places.result steps s c.loop-at.invariant.covered now here
           (omega (arith, c.max-places.ensures)) (omega (arith, c.max-places.ensures));
+      least = λ places covers.
+          let there = step_is steps (steps_at scope.steps.now c.args.frames.now) at s c.requires.steps (omega arith) c.index-steps-at.is in
+          let layer = step_covered scope c.args.frames.now c.args.depth at places s c.requires.entered covers there in
+          let more = least c.loop-at.invariant.frames places layer in
+          let before = c.loop-at.invariant.least places covers in
+          omega (arith, c.max-places.ensures, more, before);
       frames = c.step_places-more.ensures.frames ∙ c.loop-at.invariant.frames;
     }
+
+pub list_places-returns-clause-least : goal.list_places-returns-clause-least
+list_places-returns-clause-least t c = c.loop-at.invariant.least
+
+pub split_places-returns-clause-least : goal.split_places-returns-clause-least
+split_places-returns-clause-least t c = λ places covers.
+    let scope = c.args.scope.now in
+    let narrow : HasNarrowGivens c.args.split.now = search rules in
+    let some : 0 < c.args.depth = omega arith in
+    let left = c.branch_places-left.ensures.least places (covers Left narrow some) in
+    let P : List Frame → Type 0 = λ fs. CoversList scope (fs ++ record { step = c.args.at; branch = Right } ∷ []) (c.args.depth - 1) places in
+    let right = c.branch_places-right.ensures.least places (subst P (sym c.branch_places-left.ensures.frames) (covers Right narrow some)) in
+    omega (arith, c.max.ensures, left, right)
+
+pub step_places-returns-in-Knap-clause-least : goal.step_places-returns-in-Knap-clause-least
+step_places-returns-in-Knap-clause-least t c = λ places covers.
+    let scope = c.args.scope.now in
+    let level = ap out-Step c.in-Knap.is ∙ ap out-Step (sym (rolls-Knap c.in-Knap.knap)) ∙ out-roll-Step _ in
+    let here = subst (CoversLayer scope c.args.frames.now c.args.depth c.args.at places) level covers in
+    c.knap_places.ensures.least places (subst (λ (fs : List Frame). HasTable places (meant_at scope fs c.args.at c.in-Knap.knap.from)) (sym c.as_slice.ensures.value) here)
 
 pub list_places-returns-clause-covered : goal.list_places-returns-clause-covered
 list_places-returns-clause-covered t c =

@@ -1,5 +1,5 @@
-use Rattle.cgl_prooftext.proofs.ProofTextLaws.{field_grows}
+use Rattle.cgl_prooftext.proofs.LongerLaws.{field_longer}
 use Rattle.cgl_prooftext.proofs.field.append_field.Goals as goal
 
 pub returns : goal.returns
-returns c = field_grows c.args.field.now _ _ _ c.append.ensures c.append-2.ensures
+returns c = field_longer c.args.field.now _ _ _ c.append.ensures c.append-2.ensures
