@@ -3,11 +3,16 @@
 
 mod field;
 mod laws;
+mod line_laws;
+mod numbers;
 mod output;
 mod print;
+mod record;
 mod reference;
 mod store;
+mod words;
 
 pub use laws::known_texts;
+pub use line_laws::known_lines;
 pub use print::{proof_text, proofs_len};
 pub use store::print_proofs;
