@@ -21,7 +21,7 @@ use Rattle.cgl_app.specs.CutAnswers.{IsToWrite, AtOut, AtProof, IsTooLarge, with
 use Rattle.cgl_app.specs.CutOf.{extension, proofs_of, report_of, is_too_large}
 use Rattle.cgl_app.specs.CutTask.{HasStart, InForm, IsCutTask, IsFaultyStart, IsStart, task_at}
 use Rattle.cgl_app.specs.Refusals.{status_of}
-use Rattle.cgl_app.specs.Words.{Start as Source, AtPoint, start_name, CutWords}
+use Rattle.cgl_words.specs.CommandLine.{Start as Source, AtPoint, start_name, CutWords}
 use Rattle.cgl_app.proofs.CutMeaningLaws.{refused_by_size}
 use Rattle.cgl_app.proofs.DoneLaws.{done, is_task}
 

@@ -1,6 +1,6 @@
 -- What the listed cuts of a task are, and the model with them as further rows.
 use Rattle.std.proofs.Common.{◌≡◌, ℕ, zero, suc, ℤ, pos, negsuc, ◌^◌, ◌≤◌, ◌<◌, ◌/◌, nat_lt, ap, refl, ◌∙◌, arith, lit<, Bool, true, false, cond, not, ◌&&◌, List, [], ◌∷◌, map, IsTrue}
-use Rattle.std.specs.Prelude.{◌↔◌, unsigned_abs, length, Some, None, is_some}
+use Rattle.std.specs.Prelude.{◌↔◌, unsigned_abs, length, slice_get, Some, None, is_some}
 use Rattle.std.specs.List.{AllByRecursion, list_all}
 use Rattle.std.proofs.lemmas.Bool.{lt-ltb}
 use Rattle.std.proofs.Math.Nat.{div-le_self}
@@ -14,15 +14,18 @@ use Rattle.cgl_model.specs.Inequality.{Meets, Term}
 use Rattle.cgl_model.specs.Point.{Point}
 use Rattle.cgl_model.specs.Rising.{IsRising}
 use Rattle.cgl_model.specs.Valid.{IsColumn, IsValid}
+use Rattle.cgl_derive.specs.Books.{Entry, inequalities}
+use Rattle.cgl_derive.specs.Derives.{AreColumns, Derives}
 use Rattle.cgl_gen.specs.CutLaws.{IsCutAt}
 use Rattle.cgl_gen.specs.Listable.{IsListable}
 use Rattle.cgl_pool.specs.declared.kept.Kept.{Kept}
 use Rattle.cgl_pool.specs.Task.{IsTask, Task, listed_cuts}
 use Rattle.cgl_deck.specs.Extended.{AreRising, extended, is_decimal, is_known, is_within_sizes, with_rows}
+use Rattle.cgl_app.specs.Accepts.{Accepts}
 use Rattle.cgl_app.specs.Below.{Below}
 use Rattle.cgl_app.specs.CutAnswers.{ExceedsSizes, IsRightCut}
 use Rattle.cgl_app.specs.CutMeaning.{AreRight, MeetsListed}
-use Rattle.cgl_app.specs.CutOf.{cuts_of, extension, inequality_of}
+use Rattle.cgl_app.specs.CutOf.{book_of, cuts_of, extension, inequality_of, proof_of}
 
 -- each item has what follows from what each item has
 all_follow : {A : Type 0} (P Q : A → Type 0) → ((a : A) → P a → Q a) → (xs : List A) → AllByRecursion P xs → AllByRecursion Q xs
@@ -132,3 +135,33 @@ refused_by_size below t task =
     let m = t.setting.model in
     none_by_size (list_all (is_known m) (cuts_of t)) (list_all is_decimal (cuts_of t)) (is_within_sizes m (cuts_of t)) (with_rows m (cuts_of t))
     (cuts_known below t task) (cuts_decimal below t task)
+
+-- ---- the book of the listed cuts
+
+of_proofs : (kept : List Kept) → inequalities (map proof_of kept) ≡ map inequality_of kept
+of_proofs [] = refl
+of_proofs (k ∷ kept) = ap (λ cuts. inequality_of k ∷ cuts) (of_proofs kept)
+
+all_proofs : (P : Entry → Type 0) (kept : List Kept) → AllByRecursion (λ k. P (proof_of k)) kept → AllByRecursion P (map proof_of kept)
+all_proofs P [] all = tt
+all_proofs P (k ∷ kept) all = (all.0, all_proofs P kept all.1)
+
+no_entry : (k : ℕ) (entry : Entry) → slice_get [] k ≡ Some entry → ⊥
+no_entry k entry e = cc
+
+pub cuts_accepted : Below → (t : Task) (n : Model) → IsTask t → extension t ≡ Some n → Accepts t.setting.model n (book_of t)
+cuts_accepted below t n task e =
+    let m = t.setting.model in
+    let kept = listed_cuts t in
+    record {
+      extended_is = ap (extended m) (of_proofs kept) ∙ e;
+      right = record {
+        shared_columns = tt;
+        cut_columns = all_proofs (λ entry. AreColumns m entry.0.terms) kept
+            (all_follow (Keeps t) (λ k. AreColumns m (inequality_of k).terms)
+            (λ k has. below.derived.columns m [] k.candidate.derivation k.candidate.cut has.derives has.ends) kept (below.listed.cuts t task));
+        shared = λ k entry got. absurd (no_entry k entry got);
+        cuts = all_proofs (λ entry. Derives m [] entry.1 entry.0) kept
+            (all_follow (Keeps t) (λ k. Derives m [] k.candidate.derivation k.candidate.cut) (λ k has. has.derives) kept (below.listed.cuts t task));
+      };
+    }

@@ -11,17 +11,17 @@ use Rattle.cgl_app.specs.declared.refusal.CutFile.{CutFile}
 use Rattle.cgl_app.specs.declared.refusal.CutFile.TheVariants.{Out, Start as StartFile}
 use Rattle.cgl_app.specs.declared.refusal.Refusal.{Refusal}
 use Rattle.cgl_app.specs.declared.refusal.Refusal.TheVariants.{WriteFault, TooLarge, Memory, ReadFault, Input}
-use Rattle.cgl_app.specs.declared.words.Start.{Start as Source}
-use Rattle.cgl_app.specs.declared.words.Start.TheVariants.{Point as AtFile}
+use Rattle.cgl_words.specs.declared.asked.Start.{Start as Source}
+use Rattle.cgl_words.specs.declared.asked.Start.TheVariants.{Point as AtFile}
 use Rattle.cgl_app.specs.declared.texts.CutTexts.{CutTexts}
 use Rattle.cgl_app.specs.Commands.{by_extension, by_size, cut_starts, cut_works, cut_writes}
 use Rattle.cgl_app.specs.CutTask.{task_at}
-use Rattle.cgl_app.specs.Meant.{start_of}
+use Rattle.cgl_words.specs.Meant.{start_of}
 use Rattle.cgl_where.specs.PointRead.{point_result}
 use Rattle.cgl_app.specs.CutAnswers.{IsTooLarge}
 use Rattle.cgl_app.specs.CutSteps.{AreTexts, TextsRefused}
 use Rattle.cgl_app.specs.Steps.{DeckRefused}
-use Rattle.cgl_app.specs.Words.{CutWords, start_name}
+use Rattle.cgl_words.specs.CommandLine.{CutWords, start_name}
 
 -- a cut starts with what is read of where the columns stand
 pub starts_at : (c : CutWords) (m : Model) (s : Source)

@@ -13,8 +13,8 @@ use Rattle.cgl_app.specs.Below.{Below}
 use Rattle.cgl_app.specs.CutAnswers.{IsToWrite, Done, with_out, with_both}
 use Rattle.cgl_app.specs.CutOf.{proofs_of, report_of}
 use Rattle.cgl_app.specs.CutTask.{IsCutTask, IsStart}
-use Rattle.cgl_app.specs.Words.{Start, AtPoint, CutWords}
-use Rattle.cgl_app.proofs.CutMeaningLaws.{cuts_right, same_points}
+use Rattle.cgl_words.specs.CommandLine.{Start, AtPoint, CutWords}
+use Rattle.cgl_app.proofs.CutMeaningLaws.{cuts_accepted, cuts_right, same_points}
 use Rattle.cgl_app.proofs.DecodeLaws.{cut_decodes}
 
 -- the task of a model and of where its columns stand
@@ -54,5 +54,6 @@ done below c b a n t apart written same =
       files = files;
       report = ap (λ v. v.told) same;
       cuts = cuts_right below t task;
+      accepted = cuts_accepted below t n task written.extended_is;
       same_points = same_points below t n task sound.0 written.extended_is;
     }

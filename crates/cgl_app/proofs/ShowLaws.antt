@@ -19,7 +19,7 @@ use Rattle.cgl_app.specs.CutOf.{is_too_long}
 use Rattle.cgl_app.specs.Refusals.{status_of}
 use Rattle.cgl_app.specs.Report.{counts_text}
 use Rattle.cgl_app.specs.ShowAnswers.{IsToShow, ShowAnswer, ShowCompletes}
-use Rattle.cgl_app.specs.Words.{ShowWords}
+use Rattle.cgl_words.specs.CommandLine.{ShowWords}
 use Rattle.cgl_app.proofs.DecodeLaws.{read_again}
 
 abbrev End : Type 0

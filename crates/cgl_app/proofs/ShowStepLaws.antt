@@ -14,7 +14,7 @@ use Rattle.cgl_app.specs.Commands.{show_by_size, show_works}
 use Rattle.cgl_app.specs.CutOf.{is_too_long}
 use Rattle.cgl_app.specs.Report.{counts_text}
 use Rattle.cgl_app.specs.Steps.{DeckRefused}
-use Rattle.cgl_app.specs.Words.{ShowWords}
+use Rattle.cgl_words.specs.CommandLine.{ShowWords}
 use Rattle.cgl_app.proofs.CutStepLaws.{same_files}
 
 pub show_written : (s : ShowWords) (m : Model) (b a : View) (end : Option (Refusal ShowFile)) → is_too_long (deck_text m) ≡ false

@@ -14,6 +14,7 @@ use Rattle.cgl_derive.specs.Soundness.{AreMet}
 use Rattle.cgl_outside.specs.Laws.{KeepsFiles}
 use Rattle.cgl_pool.specs.Laws.{ListsTask}
 use Rattle.cgl_where.specs.Laws.{ResultsArePoints}
+use Rattle.cgl_words.specs.FileNames.{FilesDiffer}
 
 -- what a derivation proves holds at each feasible point, and a claim has columns of the model
 pub record Derived : Type 0 where
@@ -30,3 +31,4 @@ pub record Below : Type 0 where
   pub extensions : Extends
   pub listed : ListsTask
   pub derived : Derived
+  pub names : FilesDiffer

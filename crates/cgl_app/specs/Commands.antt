@@ -15,7 +15,7 @@ use Rattle.cgl_app.specs.declared.refusal.Refusal.TheVariants.{ReadFault, WriteF
 use Rattle.cgl_app.specs.CutOf.{extension, proofs_of, report_of, is_too_large, is_too_long}
 use Rattle.cgl_app.specs.CutTask.{task_at}
 use Rattle.cgl_app.specs.Report.{counts_text}
-use Rattle.cgl_app.specs.Words.{Start as Source, AtPoint, CutWords, ShowWords}
+use Rattle.cgl_words.specs.CommandLine.{Start as Source, AtPoint, CutWords, ShowWords}
 
 -- ---- cut
 

@@ -20,10 +20,11 @@ use Rattle.cgl_app.specs.declared.refusal.CutFile.{CutFile}
 use Rattle.cgl_app.specs.declared.refusal.CutFile.TheVariants.{Model, Start, Out, Proof}
 use Rattle.cgl_app.specs.declared.refusal.Refusal.{Refusal}
 use Rattle.cgl_app.specs.declared.refusal.Refusal.TheVariants.{ReadFault, WriteFault, OutputFault, Input, Named, TooLarge, Memory}
-use Rattle.cgl_app.specs.CutOf.{cuts_of, extension, proofs_of, report_of, is_too_large}
+use Rattle.cgl_app.specs.Accepts.{Accepts}
+use Rattle.cgl_app.specs.CutOf.{book_of, cuts_of, extension, proofs_of, report_of, is_too_large}
 use Rattle.cgl_app.specs.CutTask.{InForm, IsFaultyStart, IsCutTask}
 use Rattle.cgl_app.specs.Meant.{cut_file}
-use Rattle.cgl_app.specs.Words.{CutWords}
+use Rattle.cgl_words.specs.CommandLine.{CutWords}
 
 -- the files after OUT, and after OUT and PROOF
 abbrev pub with_out : CutWords → Held → Mip → Held
@@ -56,6 +57,7 @@ pub record Done (c : CutWords) (before after : View) : Type 0 where
   pub files : after.held ≡ with_both c before.held n t
   pub report : after.told ≡ with_put before.told (report_of t)
   pub cuts : AllByRecursion (IsRightCut t) (listed_cuts t)
+  pub accepted : Accepts t.setting.model n (book_of t)  -- so a checker that is exact accepts OUT and PROOF
   pub same_points : SamePoints t.setting.model n
 
 -- the files that are read before this one were read

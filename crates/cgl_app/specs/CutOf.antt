@@ -1,14 +1,15 @@
 -- What a cut makes of the task that it works on.
-use Rattle.std.specs.Prelude.{ℕ, ◌^◌, nat_lt, Bool, ◌||◌, List, length, map, Option}
+use Rattle.std.specs.Prelude.{ℕ, ◌^◌, nat_lt, Bool, ◌||◌, List, [], length, map, Option}
 use Rattle.cgl_model.specs.declared.linear.Ineq.{Ineq}
 use Rattle.cgl_model.specs.declared.mip.Model.{Model}
+use Rattle.cgl_derive.specs.declared.book.Book.{Book}
 use Rattle.cgl_derive.specs.declared.step.Derivation.{Derivation}
 use Rattle.cgl_pool.specs.declared.kept.Kept.{Kept}
 use Rattle.cgl_pool.specs.Task.{Task, listed_cuts, wide_keys}
 use Rattle.cgl_deck.specs.CutNames.{cut_names}
 use Rattle.cgl_deck.specs.DeckText.{deck_text}
 use Rattle.cgl_deck.specs.Extended.{extended}
-use Rattle.cgl_prooftext.specs.ProofText.{proof_text}
+use Rattle.cgl_prooftext.specs.ProofText.{book_text}
 use Rattle.cgl_app.specs.Report.{report_text}
 
 abbrev pub inequality_of : Kept → Ineq
@@ -25,8 +26,12 @@ cuts_of t = map inequality_of (listed_cuts t)
 abbrev pub extension : Task → Option Model
 extension t = extended t.setting.model (cuts_of t)
 
+-- each listed cut with its derivation, and nothing shared
+abbrev pub book_of : Task → Book
+book_of t = record { shared = []; cuts = map proof_of (listed_cuts t) }
+
 abbrev pub proofs_of : Task → List ℕ
-proofs_of t = proof_text (map proof_of (listed_cuts t))
+proofs_of t = book_text (book_of t)
 
 abbrev pub report_of : Task → List ℕ
 report_of t = report_text (cut_names t.setting.model (length (listed_cuts t))) (listed_cuts t) (wide_keys t)

@@ -10,7 +10,7 @@ use Rattle.cgl_outside.specs.Shelf.{Held}
 use Rattle.cgl_pool.specs.declared.any_gen.AnyGen.{AnyGen}
 use Rattle.cgl_pool.specs.declared.any_gen.AnyGen.TheVariants.{Rounder}
 use Rattle.cgl_pool.specs.Task.{Task}
-use Rattle.cgl_app.specs.Words.{Start, AtPoint, CutWords}
+use Rattle.cgl_words.specs.CommandLine.{Start, AtPoint, CutWords}
 
 -- simple rounding alone, whose turns have no end
 abbrev pub generators : List AnyGen

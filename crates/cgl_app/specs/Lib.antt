@@ -1,4 +1,3 @@
-pub mod Words
 pub mod Meant
 pub mod Below
 pub mod Report
@@ -15,3 +14,4 @@ pub mod Answered
 pub mod CutSteps
 pub mod ShowSteps
 pub mod CutMeaning
+pub mod Accepts

@@ -15,7 +15,7 @@ use Rattle.cgl_app.specs.declared.refusal.Refusal.{Refusal}
 use Rattle.cgl_app.specs.declared.refusal.Refusal.TheVariants.{ReadFault, WriteFault, OutputFault, Input, Named, TooLarge, Memory}
 use Rattle.cgl_app.specs.CutOf.{is_too_long}
 use Rattle.cgl_app.specs.Report.{counts_text}
-use Rattle.cgl_app.specs.Words.{ShowWords}
+use Rattle.cgl_words.specs.CommandLine.{ShowWords}
 
 -- the model that was read, whose text is to be written
 pub record IsToShow (s : ShowWords) (held : Held) (m : Mip) : Type 0 where

@@ -17,16 +17,17 @@ ghost use Rattle.cgl_app.specs.Commands.{cut_script, cut_starts, cut_works};
 ghost use Rattle.cgl_app.specs.CutOf.{inequality_of, is_too_long, proof_of};
 ghost use Rattle.cgl_app.specs.CutSteps.{AreTexts, TextsRefused, derivation_of};
 ghost use Rattle.cgl_app.specs.CutTask.{setting_at, task_at};
-ghost use Rattle.cgl_app.specs.Meant.{cut_file, words_of};
+ghost use Rattle.cgl_app.specs.Meant.{cut_file};
+ghost use Rattle.cgl_words.specs.Meant.{words_of};
 ghost use Rattle.cgl_app.specs.Ran.{Ran};
 ghost use Rattle.cgl_app.specs.Refusals.{name_in};
 ghost use Rattle.cgl_app.specs.Report.{report_text};
 
+use crate::files::cut_name;
 use crate::report::report_text;
 use crate::say::say_why;
 use crate::steps::{put_report, read_model, read_point, write_file, write_model};
 use crate::texts::{CutTexts, is_too_long, is_too_long_deck};
-use crate::words::Cut;
 use crate::{CutFile, Refusal};
 use cgl_deck::{ExtendError, cut_names, extension_laws, with_cuts};
 use cgl_derive::{Candidate, Derivation};
@@ -37,6 +38,7 @@ use cgl_outside::{Shelf, Sink};
 use cgl_pool::{AnyGen, Gathered, Kept, Task, generate};
 use cgl_prooftext::proof_text;
 use cgl_where::known_points;
+use cgl_words::Cut;
 use std::alloc::Global;
 
 /// The cuts that these generators list at the site, and the items whose answer was too wide.
@@ -291,7 +293,7 @@ fn name_in<'a>(cut: &Cut<'a>, refusal: &Refusal<CutFile>) -> &'a str
     ensures { result.now ≡ name_in (cut_file (words_of cut.now)) refusal.now }
 {
     match refusal.file() {
-        Some(file) => cut.name(file),
+        Some(file) => cut_name(cut, file),
         None => "",
     }
 }

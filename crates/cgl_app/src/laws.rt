@@ -6,10 +6,11 @@ ghost use Rattle.cgl_model.specs.Feasible.{IsFeasible, SamePoints};
 ghost use Rattle.cgl_model.specs.Point.{Point};
 ghost use Rattle.cgl_model.specs.Valid.{IsValid};
 ghost use Rattle.cgl_pool.specs.Task.{IsTask, Task};
+ghost use Rattle.cgl_app.specs.Accepts.{Accepts};
 ghost use Rattle.cgl_app.specs.Below.{Below};
 ghost use Rattle.cgl_app.specs.CutAnswers.{ExceedsSizes};
 ghost use Rattle.cgl_app.specs.CutMeaning.{AreRight, MeetsListed};
-ghost use Rattle.cgl_app.specs.CutOf.{extension};
+ghost use Rattle.cgl_app.specs.CutOf.{book_of, extension};
 ghost use Rattle.cgl_app.specs.KnownLines.{KnownLines};
 
 use cgl_deck::{extension_laws, round_trip_laws};
@@ -18,6 +19,7 @@ use cgl_derive::{lists, soundness};
 use cgl_outside::shelf_laws;
 use cgl_pool::task_laws;
 use cgl_where::known_points;
+use cgl_words::file_names;
 
 /// What the laws of the crates below say.
 pub fn laws_below()
@@ -31,6 +33,7 @@ pub fn laws_below()
     task_laws();
     lists();
     soundness();
+    file_names();
 }
 
 /// What the listed cuts of a task are: each is violated by its fraction and proved by its derivation, and each feasible
@@ -40,6 +43,7 @@ pub fn cut_laws()
     ensures right { (t : Task) → IsTask t → AreRight t }
     ensures met { (t : Task) → IsTask t → (y : Point) → IsFeasible t.setting.model y → MeetsListed t y }
     ensures points { (t : Task) (n : Model) → IsTask t → IsValid t.setting.model → extension t ≡ Some n → SamePoints t.setting.model n }
+    ensures accepted { (t : Task) (n : Model) → IsTask t → extension t ≡ Some n → Accepts t.setting.model n (book_of t) }
     ensures sizes { (t : Task) → IsTask t → (extension t ≡ None) ↔ ExceedsSizes t }
 {
     laws_below();

@@ -2,6 +2,7 @@
 #![tactic(auto)]
 
 mod cut;
+mod files;
 mod laws;
 mod program;
 mod refusal;
@@ -10,7 +11,6 @@ mod say;
 mod show;
 mod steps;
 mod texts;
-mod words;
 
 pub use laws::{cut_laws, known_lines};
 pub use program::run;

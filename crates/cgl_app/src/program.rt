@@ -1,29 +1,42 @@
-ghost use Rattle.std.specs.Prelude.{map, string_bytes};
+ghost use Rattle.std.specs.Prelude.{◌≡◌, map, string_bytes};
+ghost use Rattle.cgl_outside.specs.Says.{Says};
 ghost use Rattle.cgl_outside.specs.View.{view};
 ghost use Rattle.cgl_app.specs.Answered.{Answered};
+ghost use Rattle.cgl_app.specs.Refusals.{usage_line};
 
 use crate::cut::run_cut;
 use crate::laws::laws_below;
 use crate::say::say_usage;
 use crate::show::run_show;
-use crate::words::{Command, command_of};
 use cgl_outside::{Shelf, Sink};
+use cgl_words::{Command, command_of};
 use std::alloc::Global;
+
+/// Says that the words are of no command, and gives the exit status.
+fn run_usage<E: Sink>(err: &mut E) -> u8
+    ensures says { Says (E.written err.old) (E.written err.new) (E.faults err.old) (E.faults err.new) usage_line }
+    ensures status { result ≡ 2 }
+{
+    say_usage(err);
+    2
+}
 
 /// Does what the words behind the program's name ask for, and gives the exit status.
 ///
-/// - `cut MODEL OUT PROOF --point FILE --gen round` reads the deck MODEL and the point FILE. It writes to OUT the deck
+/// - `cut MODEL OUT PROOF --point FILE [--gen LIST]` reads the deck MODEL and the point FILE. It writes to OUT the deck
 ///   with a further row for each cut that is listed for the point, and to PROOF the derivation of each, and puts the
 ///   report on `out`.
 /// - `show MODEL OUT` reads the deck MODEL, writes its canonical text to OUT, and puts the counts of its rows, columns and
 ///   entries on `out`.
 ///
-/// The names of a command's files are not empty, do not begin with `-`, and differ from one another.
+/// LIST has words of generators joined by commas, each at most once; `round` is the only one so far, and the one that runs
+/// where no list is given. Options and the other words stand in any order; `--x=v` is `--x v`, and behind `--` no word is
+/// an option. The names of a command's files are not empty, and differ from one another.
 ///
 /// | Status | Comes where | Line on `err` |
 /// |---|---|---|
 /// | 0 | the work is done | none |
-/// | 2 | the words are of neither form | `cgl: bad command line` |
+/// | 2 | the words are of neither form, or of `check` or `upgrade`, which do not work yet | `cgl: bad command line` |
 /// | 3 | a read failed, or the file is not there | `cgl: read fault: FILE` |
 /// | 4 | a create or an append failed, or a put on `out` | `cgl: write fault: FILE`, or `standard output` for FILE |
 /// | 5 | the file is not in form: its first bad line and the kind of its fault | `cgl: input fault: FILE line L kind K` |
@@ -51,11 +64,10 @@ pub fn run<S: Shelf, O: Sink, E: Sink>(
 {
     laws_below();
     match command_of(words) {
-        None => {
-            say_usage(err);
-            2
-        }
+        None => run_usage(err),
         Some(Command::Cut(cut)) => run_cut(alloc, &cut, shelf, out, err),
+        Some(Command::Check(_)) => run_usage(err),
         Some(Command::Show(show)) => run_show(alloc, &show, shelf, out, err),
+        Some(Command::Upgrade(_)) => run_usage(err),
     }
 }

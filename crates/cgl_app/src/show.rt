@@ -6,19 +6,21 @@ ghost use Rattle.cgl_outside.specs.Script.{Came};
 ghost use Rattle.cgl_outside.specs.View.{view};
 ghost use Rattle.cgl_app.specs.Commands.{show_script, show_works};
 ghost use Rattle.cgl_app.specs.CutOf.{is_too_long};
-ghost use Rattle.cgl_app.specs.Meant.{show_file, show_words_of};
+ghost use Rattle.cgl_app.specs.Meant.{show_file};
+ghost use Rattle.cgl_words.specs.Meant.{show_words_of};
 ghost use Rattle.cgl_app.specs.Ran.{Ran};
 ghost use Rattle.cgl_app.specs.Refusals.{name_in};
 ghost use Rattle.cgl_app.specs.ShowSteps.{AreCounts};
 
+use crate::files::show_name;
 use crate::report::counts_text;
 use crate::say::say_why;
 use crate::steps::{put_report, read_model, write_model};
 use crate::texts::is_too_long_deck;
-use crate::words::Show;
 use crate::{Refusal, ShowFile};
 use cgl_model::Model;
 use cgl_outside::{Shelf, Sink};
+use cgl_words::Show;
 use std::alloc::Global;
 
 /// The counts of a model whose canonical text is not too long.
@@ -76,7 +78,7 @@ fn name_in<'a>(show: &Show<'a>, refusal: &Refusal<ShowFile>) -> &'a str
     ensures { result.now ≡ name_in (show_file (show_words_of show.now)) refusal.now }
 {
     match refusal.file() {
-        Some(file) => show.name(file),
+        Some(file) => show_name(show, file),
         None => "",
     }
 }

@@ -1,2 +1,3 @@
 mod Rows
 mod SplitLaws
+pub mod FileLaws

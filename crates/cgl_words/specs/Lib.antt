@@ -1,3 +1,4 @@
 pub mod CommandLine
 pub mod KnownWords
 pub mod Meant
+pub mod FileNames

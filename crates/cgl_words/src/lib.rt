@@ -7,4 +7,4 @@ mod option;
 mod reading;
 
 pub use asked::{Check, Command, Cut, Generators, Show, Start, Upgrade, command_of};
-pub use laws::known_words;
+pub use laws::{file_names, known_words};

@@ -1,7 +1,7 @@
 use Rattle.std.proofs.Common.{rules, ◌≡◌, Some, refl}
 use Rattle.std.specs.Result.{result_err}
 use Rattle.cgl_outside.specs.ScriptLaws.{ended}
-use Rattle.cgl_app.specs.Meant.{words_of}
+use Rattle.cgl_words.specs.Meant.{words_of}
 use Rattle.cgl_app.proofs.CutStepLaws.{texts_refused}
 use Rattle.cgl_app.proofs.cut.deliver.Goals as goal
 

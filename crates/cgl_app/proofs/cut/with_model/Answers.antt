@@ -1,7 +1,7 @@
 use Rattle.std.proofs.Common.{rules, ◌≡◌, Some, sym}
 use Rattle.std.specs.Result.{result_err}
 use Rattle.cgl_outside.specs.ScriptLaws.{ended, read_refused, read_on}
-use Rattle.cgl_app.specs.Meant.{words_of}
+use Rattle.cgl_words.specs.Meant.{words_of}
 use Rattle.cgl_app.proofs.CutStepLaws.{starts_at}
 use Rattle.cgl_app.proofs.cut.with_model.Goals as goal
 

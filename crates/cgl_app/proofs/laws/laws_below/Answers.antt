@@ -9,4 +9,5 @@ returns c = record {
   extensions = c.extension_laws.ensures;
   listed = c.task_laws.ensures;
   derived = record { sound = c.soundness.ensures.derivation; columns = c.lists.ensures.columns };
+  names = c.file_names.ensures;
 }

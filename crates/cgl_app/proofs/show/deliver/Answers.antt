@@ -1,7 +1,7 @@
 use Rattle.std.proofs.Common.{rules, ◌≡◌, ◌∙◌, Some, refl}
 use Rattle.std.specs.Result.{result_err}
 use Rattle.cgl_outside.specs.ScriptLaws.{ended, file_written, put_came}
-use Rattle.cgl_app.specs.Meant.{show_words_of}
+use Rattle.cgl_words.specs.Meant.{show_words_of}
 use Rattle.cgl_app.proofs.ShowStepLaws.{show_refused, show_unwritten, show_written}
 use Rattle.cgl_app.proofs.show.deliver.Goals as goal
 
