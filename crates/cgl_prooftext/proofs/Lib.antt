@@ -1,3 +1,5 @@
 pub mod ProofTextLaws
 pub mod LongerLaws
 pub mod KnownText
+pub mod FieldLaws
+pub mod OrderLaws
