@@ -3,3 +3,4 @@ pub mod LongerLaws
 pub mod KnownText
 pub mod FieldLaws
 pub mod OrderLaws
+pub mod NameLaws

@@ -5,6 +5,7 @@ mod field;
 mod fields;
 mod laws;
 mod line_laws;
+mod names;
 mod numbers;
 mod order;
 mod output;

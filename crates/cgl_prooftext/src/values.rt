@@ -1,12 +1,14 @@
 //! Fields that hold one value.
 
 ghost use Rattle.std.specs.Prelude.{◌≡◌, ℕ, option_map};
-ghost use Rattle.cgl_prooftext.specs.LineResult.{count_in, field_by, fits_integer, fits_number, integer_in, natural_in, rhs_in};
-ghost use Rattle.cgl_prooftext.specs.Readings.{IsRead, fields_left, sized};
+ghost use Rattle.cgl_prooftext.specs.LineResult.{count_in, field_by, fits_integer, fits_number, integer_in, natural_in, ref_in, rhs_in};
+ghost use Rattle.cgl_prooftext.specs.Readings.{IsRead, fields_left, fits_ref, sized};
 
 use crate::fields::Fields;
 use crate::numbers::{integer, number};
 use crate::record::LineFault;
+use crate::names::reference;
+use cgl_derive::Ref;
 
 /// How many there are.
 pub(crate) fn count(fields: &mut Fields) -> Result<u32, LineFault>
@@ -46,4 +48,17 @@ pub(crate) fn rhs(fields: &mut Fields) -> Result<Option<i128>, LineFault>
         return Err(LineFault::Form);
     }
     integer_field(fields)
+}
+
+/// A reference: none where its number is too large.
+pub(crate) fn reference_field(fields: &mut Fields, lemmas: bool) -> Result<Option<Ref>, LineFault>
+    ensures { IsRead result (fields_left fields.new.rest) (sized fits_ref (field_by (ref_in lemmas) (fields_left fields.old.rest))) }
+{
+    let Some(field) = fields.take() else {
+        return Err(LineFault::Form);
+    };
+    let Some(reference) = reference(field, lemmas) else {
+        return Err(LineFault::Form);
+    };
+    Ok(reference)
 }
