@@ -1,6 +1,6 @@
 -- The fields of a line, one after another.
-use Rattle.std.proofs.Common.{◌≡◌, ℕ, ◌+◌, ◌-◌, ◌<◌, ◌≤◌, Bool, true, false, cond, List, [], ◌∷◌, ◌∙◌, refl, sym, ap, subst, length, take, drop, arith, length-drop, take_all}
-use Rattle.std.specs.List.{position_or_len, before_first, after_first, slice_split, onto_first, All}
+use Rattle.std.proofs.Common.{◌≡◌, ℕ, ◌+◌, ◌-◌, ◌<◌, ◌≤◌, false, cond, [], ◌∷◌, ◌∙◌, refl, sym, ap, subst, length, take, drop, arith, length-drop, take_all}
+use Rattle.std.specs.List.{position_or_len, slice_split, onto_first}
 use Rattle.std.proofs.lemmas.List.Elements.{All-from_get_or}
 use Rattle.std.proofs.lemmas.List.Sums.{fails_before_first}
 use Rattle.std.proofs.lemmas.List.Splits.{slice_split_first, slice_split_none}
@@ -16,15 +16,15 @@ pub first_field : (line : Text) (place : ℕ) → place ≡ position_or_len is_s
     → fields_of line ≡ take place line ∷ fields_of (drop (place + 1) line)
 first_field line place is below =
     let e : fields_of line ≡ take (position_or_len is_space line) line ∷ fields_of (drop (position_or_len is_space line + 1) line) =
-        fields_split line ∙ slice_split_first is_space line 0 (subst (λ n. n < length line) is below)
-            ∙ ap (λ others. take (position_or_len is_space line) line ∷ others) (sym (fields_split (drop (position_or_len is_space line + 1) line)))
+    fields_split line ∙ slice_split_first is_space line 0 (subst (λ n. n < length line) is below)
+    ∙ ap (λ others. take (position_or_len is_space line) line ∷ others) (sym (fields_split (drop (position_or_len is_space line + 1) line)))
     in subst (λ n. fields_of line ≡ take n line ∷ fields_of (drop (n + 1) line)) (sym is) e
 
 pub last_field : (line : Text) → length line ≡ position_or_len is_space line → fields_of line ≡ line ∷ []
 last_field line is =
     fields_split line
     ∙ slice_split_none is_space line
-        (All-from_get_or (λ b. is_space b ≡ false) line 0 (λ i below. fails_before_first is_space line i 0 (subst (λ n. i < n) is below)))
+    (All-from_get_or (λ b. is_space b ≡ false) line 0 (λ i below. fails_before_first is_space line i 0 (subst (λ n. i < n) is below)))
 
 -- the same, with what stands behind the space as a range gives it
 pub behind_field : (line : Text) (place : ℕ) → place ≡ position_or_len is_space line → place < length line

@@ -4,3 +4,4 @@ pub mod KnownText
 pub mod FieldLaws
 pub mod OrderLaws
 pub mod NameLaws
+pub mod TermLaws

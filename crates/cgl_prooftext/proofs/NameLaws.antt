@@ -1,5 +1,5 @@
 -- The last letter of a name.
-use Rattle.std.proofs.Common.{◌≡◌, ℕ, zero, suc, ◌+◌, ◌-◌, ◌<◌, ◌==◌, ◌≢◌, List, [], ◌∷◌, Option, Some, None, if◌then◌else◌, refl, length, get_or, arith, ◌∙◌, sym, subst}
+use Rattle.std.proofs.Common.{◌≡◌, ℕ, zero, suc, ◌+◌, ◌-◌, ◌<◌, ◌==◌, ◌≢◌, [], ◌∷◌, Option, Some, None, if◌then◌else◌, refl, length, get_or, arith, ◌∙◌, sym, subst}
 use Rattle.std.proofs.lemmas.Bool.Decides.{nat_tests}
 use Rattle.cgl_model.specs.declared.places.End.{End}
 use Rattle.cgl_model.specs.declared.places.End.TheVariants.{Lower, Upper}

@@ -1,7 +1,7 @@
 -- Two numbers as texts: the longer one is larger, and of two of one length the first digit in which they differ decides.
-use Rattle.std.proofs.Common.{◌≡◌, ℕ, ◌+◌, ◌-◌, ◌*◌, ◌<◌, ◌≤◌, ◌≢◌, Bool, true, false, not, ◌==◌, ◌||◌, ◌&&◌, cond, nat_lt, List, [], ◌∷◌, ◌∙◌, refl, sym, ap, subst, length, arith, ◌⊎◌, inl, inr, Some}
+use Rattle.std.proofs.Common.{◌≡◌, ℕ, ◌+◌, ◌-◌, ◌*◌, ◌<◌, ◌≤◌, ◌≢◌, Bool, true, false, ◌==◌, ◌||◌, ◌&&◌, nat_lt, [], ◌∷◌, ◌∙◌, refl, sym, ap, length, arith, ◌⊎◌, inl, inr, Some}
 use Rattle.std.specs.List.{fold, list_all}
-use Rattle.std.proofs.lemmas.Bool.{ltb-true, lt-ltb}
+use Rattle.std.proofs.lemmas.Bool.{lt-ltb}
 use Rattle.std.proofs.lemmas.Bool.Decides.{nat_tests}
 use Rattle.std.proofs.lemmas.Cmp.{same_from_slice_cmp_tested}
 use Rattle.std.specs.Ordering.{nat_cmp, is_lt, is_some_and}
@@ -59,8 +59,8 @@ not_below m n h = grind (arith, nat_tests)
 pub by_length : (s t : Text) → is_natural s ≡ true → is_natural t ≡ true → length s ≢ length t → nat_lt (length s) (length t) ≡ nat_lt (natural s) (natural t)
 by_length s t s_is t_is apart =
     elim (less_or_more (length s) (length t) apart) [
-      inl less ↦ lt-ltb (length s) (length t) less ∙ sym (lt-ltb (natural s) (natural t) (longer s t s_is t_is less))
-    | inr more ↦ not_below (length s) (length t) (omega arith) ∙ sym (not_below (natural s) (natural t) (at_most (longer t s t_is s_is more)))
+      | inl less ↦ lt-ltb (length s) (length t) less ∙ sym (lt-ltb (natural s) (natural t) (longer s t s_is t_is less))
+      | inr more ↦ not_below (length s) (length t) (omega arith) ∙ sym (not_below (natural s) (natural t) (at_most (longer t s t_is s_is more)))
     ]
 
 -- the first byte in which they differ decides
@@ -90,11 +90,11 @@ compared n (b ∷ s) (d ∷ t) same s_is t_is =
     let first : (48 ≤ b) × (b ≤ 57) × (are_digits s ≡ true) = digit_range b (are_digits s) s_is in
     let second : (48 ≤ d) × (d ≤ 57) × (are_digits t ≡ true) = digit_range d (are_digits t) t_is in
     elim (three b d) [
-      inl less ↦ at_first b d (comes_before s t) less
+      | inl less ↦ at_first b d (comes_before s t) less
           ∙ sym (lt-ltb (continued n (b ∷ s)) (continued n (d ∷ t)) (stays_below (10 * n + (b - 48)) (10 * n + (d - 48)) s t (omega arith) (omega arith) first.2))
-    | inr (inl is) ↦ at_same b d (comes_before s t) is ∙ compared (10 * n + (b - 48)) s t (omega arith) first.2 second.2
+      | inr (inl is) ↦ at_same b d (comes_before s t) is ∙ compared (10 * n + (b - 48)) s t (omega arith) first.2 second.2
           ∙ ap (λ x. nat_lt (continued (10 * n + (b - 48)) s) (continued (10 * n + (x - 48)) t)) is
-    | inr (inr more) ↦ at_second b d (comes_before s t) more
+      | inr (inr more) ↦ at_second b d (comes_before s t) more
           ∙ sym (not_below (continued n (b ∷ s)) (continued n (d ∷ t)) (at_most (stays_below (10 * n + (d - 48)) (10 * n + (b - 48)) t s (omega arith) (omega arith) second.2)))
     ]
 

@@ -1,6 +1,6 @@
 -- Lines, and what they say.
-use Rattle.std.specs.Prelude.{◌≡◌, ℕ, pos, negsuc, true, false, Bool, List, [], ◌∷◌, codes, map}
-use Rattle.cgl_model.specs.declared.places.End.TheVariants.{Lower, Upper}
+use Rattle.std.specs.Prelude.{◌≡◌, ℕ, pos, negsuc, true, false, List, [], ◌∷◌, codes}
+use Rattle.cgl_model.specs.declared.places.End.TheVariants.{Upper}
 use Rattle.cgl_model.specs.declared.places.Place.TheVariants.{Row}
 use Rattle.cgl_derive.specs.declared.step.Ref.TheVariants as by
 use Rattle.cgl_prooftext.specs.declared.record.Record.TheVariants as is

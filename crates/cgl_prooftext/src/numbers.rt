@@ -6,6 +6,7 @@ ghost use Rattle.cgl_prooftext.specs.Readings.{fitting};
 ghost use Rattle.cgl_prooftext.specs.Sizes.{fitting_number, near};
 
 const NUMBER_END: u128 = 4_294_967_296;
+
 const INTEGER_END: u128 = 170_141_183_460_469_231_731_687_303_715_884_105_728;
 
 /// The number of digits, or the largest of the type where it is larger.

@@ -5,9 +5,9 @@ ghost use Rattle.cgl_prooftext.specs.LineResult.{count_in, field_by, fits_intege
 ghost use Rattle.cgl_prooftext.specs.Readings.{IsRead, fields_left, fits_ref, sized};
 
 use crate::fields::Fields;
+use crate::names::reference;
 use crate::numbers::{integer, number};
 use crate::record::LineFault;
-use crate::names::reference;
 use cgl_derive::Ref;
 
 /// How many there are.
