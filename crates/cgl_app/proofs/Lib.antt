@@ -1,3 +1,8 @@
+pub mod SaidLaws
+pub mod SameLaws
+pub mod SameModelLaws
+pub mod VerdictLaws
+pub mod PathLaws
 pub mod WordLaws
 pub mod TextLaws
 pub mod CutStepLaws

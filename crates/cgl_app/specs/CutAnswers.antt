@@ -19,7 +19,7 @@ use Rattle.cgl_outside.specs.View.{View}
 use Rattle.cgl_app.specs.declared.refusal.CutFile.{CutFile}
 use Rattle.cgl_app.specs.declared.refusal.CutFile.TheVariants.{Model, Start, Out, Proof}
 use Rattle.cgl_app.specs.declared.refusal.Refusal.{Refusal}
-use Rattle.cgl_app.specs.declared.refusal.Refusal.TheVariants.{ReadFault, WriteFault, OutputFault, Input, Named, TooLarge, Memory}
+use Rattle.cgl_app.specs.declared.refusal.Refusal.TheVariants.{ReadFault, WriteFault, OutputFault, Input, Named, NotAccepted, TooLarge, Memory}
 use Rattle.cgl_app.specs.Accepts.{Accepts}
 use Rattle.cgl_app.specs.CutOf.{book_of, cuts_of, extension, proofs_of, report_of, is_too_large}
 use Rattle.cgl_app.specs.CutTask.{InForm, IsFaultyStart, IsCutTask}
@@ -127,6 +127,7 @@ CutAnswer c before after (Some (WriteFault file)) = WriteStop c before after fil
 CutAnswer c before after (Some OutputFault) = OutputStop c before after
 CutAnswer c before after (Some (Input file line kind)) = InputStop c before after file line kind
 CutAnswer c before after (Some (Named cause model)) = ⊥
+CutAnswer c before after (Some (NotAccepted unaccepted)) = ⊥
 CutAnswer c before after (Some TooLarge) = SizeStop c before after
 CutAnswer c before after (Some Memory) = after ≡ before
 

@@ -5,6 +5,7 @@ pub mod CutOf
 pub mod CutTask
 pub mod Commands
 pub mod Refusals
+pub mod SameModel
 pub mod KnownLines
 pub mod Ran
 pub mod Steps
@@ -14,4 +15,6 @@ pub mod Answered
 pub mod CutSteps
 pub mod ShowSteps
 pub mod CutMeaning
+pub mod Said
 pub mod Accepts
+pub mod Verdict

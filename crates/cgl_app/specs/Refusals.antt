@@ -1,5 +1,5 @@
 -- The line that tells why a command did not do its work, and its status.
-use Rattle.std.specs.Prelude.{◌≡◌, ℕ, List, [], ◌∷◌, Option, Some, None, option_map, unwrap_or, slice_get, codes}
+use Rattle.std.specs.Prelude.{◌≡◌, ℕ, ◌+◌, List, [], ◌∷◌, ◌++◌, Option, Some, None, option_map, unwrap_or, slice_get, flat_map, codes}
 use Rattle.std.specs.Fmt.{decimal, signed_decimal}
 use Rattle.cgl_model.specs.declared.mip.Model.{Model as Mip}
 use Rattle.cgl_model.specs.declared.places.Var.TheVariants.{Col, Slack}
@@ -8,7 +8,14 @@ use Rattle.cgl_app.specs.declared.refusal.Spot.TheVariants.{Of, Rhs}
 use Rattle.cgl_app.specs.declared.refusal.Cause.{Cause}
 use Rattle.cgl_app.specs.declared.refusal.Cause.TheVariants.{Singular, Scale, TooFine, Overflow}
 use Rattle.cgl_app.specs.declared.refusal.Refusal.{Refusal}
-use Rattle.cgl_app.specs.declared.refusal.Refusal.TheVariants.{ReadFault, WriteFault, OutputFault, Input, Named, TooLarge, Memory}
+use Rattle.cgl_app.specs.declared.refusal.Refusal.TheVariants.{ReadFault, WriteFault, OutputFault, Input, Named, NotAccepted, TooLarge, Memory}
+use Rattle.cgl_app.specs.declared.refusal.Unaccepted.{Unaccepted}
+use Rattle.cgl_app.specs.declared.refusal.Unaccepted.TheVariants.{Deck, Entry}
+use Rattle.cgl_check.specs.declared.path.Branch.{Branch}
+use Rattle.cgl_check.specs.declared.path.Branch.TheVariants.{Left, Right}
+use Rattle.cgl_check.specs.declared.refusal.BookRefusal.{BookRefusal}
+use Rattle.cgl_check.specs.declared.refusal.EntryPlace.{EntryPlace}
+use Rattle.cgl_check.specs.declared.refusal.EntryPlace.TheVariants.{Shared, Cut}
 use Rattle.cgl_outside.specs.Says.{Says, joined}
 
 -- ---- names of the model
@@ -44,6 +51,47 @@ cause_status (Scale row) = 6
 cause_status (TooFine column) = 6
 cause_status (Overflow step row column left right) = 6
 
+-- ---- derivations that are not accepted
+
+abbrev pub branch_text : Option Branch → List ℕ
+branch_text None = []
+branch_text (Some Left) = codes "l"
+branch_text (Some Right) = codes "r"
+
+abbrev pub place_text : ℕ × Option Branch → List ℕ
+place_text place = decimal place.0 ++ branch_text place.1
+
+abbrev pub behind_point : ℕ × Option Branch → List ℕ
+behind_point place = codes "." ++ place_text place
+
+-- the step numbers from outside inwards, parted by points, each with the branch that was entered; `-` where there are none
+unfoldable pub path_text : List (ℕ × Option Branch) → List ℕ
+path_text [] = codes "-"
+path_text (first ∷ rest) = place_text first ++ flat_map behind_point rest
+
+abbrev pub entry_word : EntryPlace → List ℕ
+entry_word (Shared k) = codes "lemma "
+entry_word (Cut k) = codes "cut "
+
+-- from 1
+abbrev pub entry_number : EntryPlace → ℕ
+entry_number (Shared k) = k + 1
+entry_number (Cut k) = k + 1
+
+unfoldable pub entry_head : EntryPlace → List ℕ
+entry_head place = joined (codes "cgl: not accepted: " ∷ entry_word place ∷ decimal (entry_number place) ∷ codes " path " ∷ [])
+
+unfoldable pub entry_tail : ℕ → List ℕ
+entry_tail why = joined (codes " why " ∷ decimal why ∷ codes "\n" ∷ [])
+
+-- which derivation fails, where, and why
+unfoldable pub entry_line : BookRefusal → List ℕ
+entry_line r = entry_head r.entry ++ path_text r.reject.path ++ entry_tail r.reject.why
+
+abbrev pub unaccepted_line : Unaccepted → List ℕ
+unaccepted_line Deck = joined (codes "cgl: not accepted: deck\n" ∷ [])
+unaccepted_line (Entry r) = entry_line r
+
 -- ---- refusals, whatever the files of the command
 
 -- the file that the refusal is about
@@ -53,6 +101,7 @@ file_in (WriteFault file) = Some file
 file_in OutputFault = None
 file_in (Input file line kind) = Some file
 file_in (Named cause model) = None
+file_in (NotAccepted unaccepted) = None
 file_in TooLarge = None
 file_in Memory = None
 
@@ -71,6 +120,7 @@ line_of name OutputFault = joined (codes "cgl: write fault: " ∷ codes "standar
 line_of name (Input file line kind) =
     joined (codes "cgl: input fault: " ∷ name ∷ codes " line " ∷ decimal line ∷ codes " kind " ∷ decimal kind ∷ codes "\n" ∷ [])
 line_of name (Named cause model) = cause_line model cause
+line_of name (NotAccepted unaccepted) = unaccepted_line unaccepted
 line_of name TooLarge = joined (codes "cgl: too large\n" ∷ [])
 line_of name Memory = joined (codes "cgl: out of memory\n" ∷ [])
 
@@ -80,6 +130,7 @@ status_in (WriteFault file) = 4
 status_in OutputFault = 4
 status_in (Input file line kind) = 5
 status_in (Named cause model) = cause_status cause
+status_in (NotAccepted unaccepted) = 1
 status_in TooLarge = 6
 status_in Memory = 7
 

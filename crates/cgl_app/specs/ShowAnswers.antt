@@ -12,7 +12,7 @@ use Rattle.cgl_outside.specs.View.{View}
 use Rattle.cgl_app.specs.declared.refusal.ShowFile.{ShowFile}
 use Rattle.cgl_app.specs.declared.refusal.ShowFile.TheVariants.{Model, Out}
 use Rattle.cgl_app.specs.declared.refusal.Refusal.{Refusal}
-use Rattle.cgl_app.specs.declared.refusal.Refusal.TheVariants.{ReadFault, WriteFault, OutputFault, Input, Named, TooLarge, Memory}
+use Rattle.cgl_app.specs.declared.refusal.Refusal.TheVariants.{ReadFault, WriteFault, OutputFault, Input, Named, NotAccepted, TooLarge, Memory}
 use Rattle.cgl_app.specs.CutOf.{is_too_long}
 use Rattle.cgl_app.specs.Report.{counts_text}
 use Rattle.cgl_words.specs.CommandLine.{ShowWords}
@@ -78,6 +78,7 @@ ShowAnswer s before after (Some OutputFault) = ShowOutputStop s before after
 ShowAnswer s before after (Some (Input Model line kind)) = ShowInputStop s before after line kind
 ShowAnswer s before after (Some (Input Out line kind)) = ⊥
 ShowAnswer s before after (Some (Named cause model)) = ⊥
+ShowAnswer s before after (Some (NotAccepted unaccepted)) = ⊥
 ShowAnswer s before after (Some TooLarge) = ShowSizeStop s before after
 ShowAnswer s before after (Some Memory) = after ≡ before
 

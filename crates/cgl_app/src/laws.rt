@@ -12,7 +12,10 @@ ghost use Rattle.cgl_app.specs.CutAnswers.{ExceedsSizes};
 ghost use Rattle.cgl_app.specs.CutMeaning.{AreRight, MeetsListed};
 ghost use Rattle.cgl_app.specs.CutOf.{book_of, extension};
 ghost use Rattle.cgl_app.specs.KnownLines.{KnownLines};
+ghost use Rattle.cgl_app.specs.Verdict.{verdict};
+ghost use Rattle.cgl_derive.specs.declared.book.Book.{Book};
 
+use cgl_check::exactness;
 use cgl_deck::{extension_laws, round_trip_laws};
 use cgl_decode::laws::deck_results;
 use cgl_derive::{lists, soundness};
@@ -53,3 +56,10 @@ pub fn cut_laws()
 pub fn known_lines()
     ensures { KnownLines }
 {}
+
+/// Nothing is refused of a deck and a book just where they are accepted for the model.
+pub fn verdict_laws()
+    ensures { (m n : Model) (book : Book) → (verdict m n book ≡ None) ↔ Accepts m n book }
+{
+    exactness();
+}

@@ -1,6 +1,7 @@
 ghost use Rattle.std.specs.Prelude.{◌≡◌};
 ghost use Rattle.cgl_app.specs.Refusals.{cause_status, file_in, status_in};
 
+use cgl_check::BookRefusal;
 use cgl_model::{Model, Var};
 
 /// A file of a cut.
@@ -23,6 +24,26 @@ pub enum ShowFile {
     Model,
     /// The deck that is written.
     Out,
+}
+
+/// A file of a check.
+#[derive(Clone, Copy)]
+pub enum CheckFile {
+    /// The deck of the model.
+    Model,
+    /// The deck with the cuts.
+    Out,
+    /// The derivations of the cuts.
+    Proof,
+}
+
+/// A file of an upgrade.
+#[derive(Clone, Copy)]
+pub enum UpgradeFile {
+    /// The derivations that are read.
+    Proof,
+    /// The derivations that are written.
+    New,
 }
 
 /// A place of an equation over the variables of a model: that of a variable, or the right side.
@@ -69,6 +90,15 @@ impl Cause {
     }
 }
 
+/// What is not accepted of a deck with cuts and of their derivations.
+#[derive(Drop)]
+pub enum Unaccepted {
+    /// The deck is not the model with the cuts as further rows.
+    Deck,
+    /// A derivation fails, of a shared inequality or of a cut.
+    Entry(BookRefusal),
+}
+
 /// Why a command did not do its work, where `F` tells the files of the command.
 #[derive(Drop)]
 pub enum Refusal<F> {
@@ -83,6 +113,8 @@ pub enum Refusal<F> {
     Input { file: F, line: u64, kind: u8 },
     /// A row or a column stands in the way, which has its name in this model. No command gives it.
     Named { cause: Cause, model: Model },
+    /// The deck or a derivation is not accepted. Status 1.
+    NotAccepted(Unaccepted),
     /// The deck to be written has more than 2^20 rows or 2^22 entries, or a file to be written more than 2^30 bytes.
     /// Status 6.
     TooLarge,
@@ -99,8 +131,11 @@ impl<F: Copy> Refusal<F> {
             Refusal::ReadFault(file) => Some(*file),
             Refusal::WriteFault(file) => Some(*file),
             Refusal::Input { file, .. } => Some(*file),
-            Refusal::OutputFault | Refusal::Named { .. } | Refusal::TooLarge | Refusal::Memory =>
-                None,
+            Refusal::OutputFault
+            | Refusal::Named { .. }
+            | Refusal::NotAccepted(_)
+            | Refusal::TooLarge
+            | Refusal::Memory => None,
         }
     }
 
@@ -114,6 +149,7 @@ impl<F: Copy> Refusal<F> {
             Refusal::OutputFault => 4,
             Refusal::Input { .. } => 5,
             Refusal::Named { cause, .. } => cause.status(),
+            Refusal::NotAccepted(_) => 1,
             Refusal::TooLarge => 6,
             Refusal::Memory => 7,
         }

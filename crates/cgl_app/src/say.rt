@@ -1,10 +1,11 @@
 ghost use Rattle.std.specs.Prelude.{◌≡◌, ◌∷◌, [], map, codes, decimal};
 ghost use Rattle.std.specs.Fmt.{signed_decimal};
 ghost use Rattle.cgl_outside.specs.Says.{Says, joined};
-ghost use Rattle.cgl_app.specs.Refusals.{cause_line, column_name, line_of, row_name, spot_front, spot_word, usage_line};
+ghost use Rattle.cgl_app.specs.Refusals.{cause_line, column_name, line_of, row_name, spot_front, spot_word, unaccepted_line, usage_line};
 
 use crate::Refusal;
-use crate::refusal::{Cause, Spot};
+use crate::refusal::{Cause, Spot, Unaccepted};
+use crate::say_entry::say_entry;
 use cgl_model::{Model, Var};
 use cgl_outside::Sink;
 use itoa::Buffer;
@@ -176,6 +177,16 @@ fn say_cause<E: Sink>(err: &mut E, model: &Model, cause: Cause)
     }
 }
 
+/// Says what is not accepted.
+fn say_unaccepted<E: Sink>(err: &mut E, unaccepted: &Unaccepted)
+    ensures { Says (E.written err.old) (E.written err.new) (E.faults err.old) (E.faults err.new) (unaccepted_line unaccepted.now) }
+{
+    match unaccepted {
+        Unaccepted::Deck => say(err, &[b"cgl: not accepted: deck\n"]),
+        Unaccepted::Entry(refusal) => say_entry(err, refusal),
+    }
+}
+
 /// Tells why a command did not do its work, where the file that it is about has this name.
 pub fn say_why<E: Sink, F: Copy>(err: &mut E, refusal: &Refusal<F>, name: &str)
     ensures { Says (E.written err.old) (E.written err.new) (E.faults err.old) (E.faults err.new) (line_of name.now refusal.now) }
@@ -186,6 +197,7 @@ pub fn say_why<E: Sink, F: Copy>(err: &mut E, refusal: &Refusal<F>, name: &str)
         Refusal::OutputFault => say_fault(err, b"cgl: write fault: ", b"standard output"),
         Refusal::Input { line, kind, .. } => say_input(err, name, *line, *kind),
         Refusal::Named { cause, model } => say_cause(err, model, *cause),
+        Refusal::NotAccepted(unaccepted) => say_unaccepted(err, unaccepted),
         Refusal::TooLarge => say(err, &[b"cgl: too large\n"]),
         Refusal::Memory => say(err, &[b"cgl: out of memory\n"]),
     }

@@ -1,6 +1,6 @@
 -- Lines, and what they say.
-use Rattle.std.specs.Prelude.{◌≡◌, ℕ, pos, negsuc, true, false, Bool, List, [], ◌∷◌, codes, map}
-use Rattle.cgl_model.specs.declared.places.End.TheVariants.{Lower, Upper}
+use Rattle.std.specs.Prelude.{◌≡◌, ℕ, pos, negsuc, true, false, List, [], ◌∷◌, codes}
+use Rattle.cgl_model.specs.declared.places.End.TheVariants.{Upper}
 use Rattle.cgl_model.specs.declared.places.Place.TheVariants.{Row}
 use Rattle.cgl_derive.specs.declared.step.Ref.TheVariants as by
 use Rattle.cgl_prooftext.specs.declared.record.Record.TheVariants as is
@@ -42,3 +42,5 @@ pub record KnownFaults : Type 0 where
   pub least : Reads (codes "cut 0 >= -170141183460469231731687303715884105728") TooLarge
   pub reference : Reads (codes "knap r4294967296L 0 >= 1") TooLarge
   pub form_over_size : Reads (codes "knap r4294967296L 0 > 1") NotOfForm
+  pub falling_over_size : Reads (codes "cut 2 4294967297 1 4294967296 1 >= 1") NotOfForm
+  pub rising_too_large : Reads (codes "cut 2 4294967296 1 4294967297 1 >= 1") TooLarge

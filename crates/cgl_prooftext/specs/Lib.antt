@@ -6,3 +6,4 @@ pub mod Sizes
 pub mod KnownLines
 pub mod TextLength
 pub mod TextOutput
+pub mod Readings

@@ -3,13 +3,11 @@ use Rattle.std.specs.Prelude.{◌≡◌, ℕ, ℤ, ◌≤◌, ◌<◌, ◌^◌, 
 use Rattle.std.specs.List.{AllByRecursion}
 use Rattle.std.specs.Fmt.{decimal}
 use Rattle.cgl_model.specs.declared.linear.Ineq.{Ineq}
-use Rattle.cgl_model.specs.declared.places.Place.{Place}
 use Rattle.cgl_model.specs.declared.places.Place.TheVariants.{Row, Bound}
 use Rattle.cgl_model.specs.Inequality.{Term, AreColumnsBelow}
 use Rattle.cgl_model.specs.Rising.{IsRising}
 use Rattle.cgl_derive.specs.declared.step.Ref.{Ref}
 use Rattle.cgl_derive.specs.declared.step.Ref.TheVariants as by
-use Rattle.cgl_prooftext.specs.declared.record.Opening.{Opening}
 use Rattle.cgl_prooftext.specs.declared.record.Record.{Record}
 use Rattle.cgl_prooftext.specs.declared.record.Record.TheVariants as is
 use Rattle.cgl_prooftext.specs.ProofText.{Text, line, ineq_fields, lin_text, round_text, knap_text, split_line}

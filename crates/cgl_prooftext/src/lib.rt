@@ -2,14 +2,18 @@
 #![tactic(auto)]
 
 mod field;
+mod fields;
 mod laws;
 mod line_laws;
+mod names;
 mod numbers;
+mod order;
 mod output;
 mod print;
 mod record;
 mod reference;
 mod store;
+mod values;
 mod words;
 
 pub use laws::known_texts;

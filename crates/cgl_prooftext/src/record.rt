@@ -27,3 +27,14 @@ pub(crate) enum Record {
     Qed,
     End,
 }
+
+/// Why a line says nothing.
+#[derive(Clone, Copy, Debug, PartialEq, Eq)]
+pub(crate) enum LineFault {
+    /// It is not of the form.
+    Form,
+    /// It is of the form, with a number that is too large; or a count is too large.
+    Large,
+    /// Memory is refused.
+    Memory,
+}

@@ -21,3 +21,6 @@ returns-in-TooLarge g c = rw c.in-TooLarge.is c.say.ensures
 
 pub returns-in-Memory : goal.returns-in-Memory
 returns-in-Memory g c = rw c.in-Memory.is c.say-in-Memory.ensures
+
+pub returns-in-NotAccepted : goal.returns-in-NotAccepted
+returns-in-NotAccepted g c = rw c.in-NotAccepted.is c.say_unaccepted.ensures

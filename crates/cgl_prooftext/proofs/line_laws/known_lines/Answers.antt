@@ -39,4 +39,6 @@ returns-clause-faults c = record {
   least = refl;
   reference = refl;
   form_over_size = refl;
+  falling_over_size = refl;
+  rising_too_large = refl;
 }

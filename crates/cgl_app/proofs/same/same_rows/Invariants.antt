@@ -1,0 +1,10 @@
+use Rattle.std.proofs.Common.{◌≡◌, true, length, take}
+use Rattle.std.specs.Cmp.Lexicographic.{pointwise}
+use Rattle.cgl_app.specs.SameModel.{same_row}
+use Rattle.cgl_app.proofs.same.same_rows.Given as goal
+
+abbrev pub invariant-loop-k : goal.invariant-loop-k
+invariant-loop-k l = record {
+  lengths : length l.fn.a ≡ length l.fn.b;
+  same : pointwise same_row (take l.k l.fn.a) (take l.k l.fn.b) ≡ true;
+}
